@@ -9,7 +9,11 @@
  * size_t has 64 bits. Only inputs may overlap. A pointer to a first byte or number is not NULL and may be read, or
  * written where it is not const, for its length; with length 0 it is not looked at and may be NULL. `x`, `x_room`,
  * `x_len` are a buffer, its room, and where the count of what was written to its front goes: where the room is too
- * short the answer is E_ROOM, and the count that is needed goes there. */
+ * short the answer is E_ROOM, and the count that is needed goes there.
+ *
+ * Arguments have one order: what is written; memory that is changed; the hashing, the field and its parameters, or the
+ * byte order and the table; the root and the size, or what is kept and the size, the old one before the new one; the
+ * index or the key; what stands there; the proof. */
 #ifndef PAXIDORE_H
 #define PAXIDORE_H
 
@@ -51,12 +55,12 @@ enum paxidore_answer {
     PAXIDORE_E_INVALID = -3,   /* the bytes are no proof for these indexes: of others, not canonical, or with more
                                 * behind; or a number names no hashing, or no field */
     PAXIDORE_E_HEIGHT = -4,    /* the proof is for a tree of another size */
-    PAXIDORE_E_SIZE = -5,      /* no tree has this count of leaves, but 2, 4, 8, 16 .. of them; or no log has one of the
-                                * sizes, or the old one is above the new one, or too few digests are kept */
+    PAXIDORE_E_SIZE = -5,      /* no tree has this count of leaves, but 2, 4, 8, 16 .. of them, or this count of digests;
+                                * no log has one of the sizes, or the old one is above the new one; too few are kept */
     PAXIDORE_E_LENGTHS = -6,   /* the lengths of the leaves do not sum to that of their bytes */
     PAXIDORE_E_COUNT = -7,     /* not as many leaves as indexes; or more values than keys; or no hash takes so many */
     PAXIDORE_E_INDEX = -8,     /* an index is not below the count of leaves, or there is none */
-    PAXIDORE_E_ROOM = -9,      /* a buffer is too short, and what is needed was written; or a tree's memory is */
+    PAXIDORE_E_ROOM = -9,      /* a buffer is too short, and what is needed was written */
     PAXIDORE_E_MORE = -10,     /* pieces of the file of a log are to be read first, and their places were written */
     PAXIDORE_E_NO_LOG = -11,   /* the file is no log's */
     PAXIDORE_E_SHORT = -12,    /* the file of a log ends before the digests of the log's size */
@@ -97,11 +101,11 @@ enum paxidore_hashing {
 
 /* OK where the bytes of a path show that `leaf` stands at `index` in the tree of `size` leaves with this root: then it
  * does, or two different inputs with one SHA-256 are at hand. Bytes of another path, of another tree, or with anything
- * behind them are refused. NOT_SHOWN, E_INVALID, E_SIZE, E_TRUNCATED, E_HEIGHT, E_MEMORY. */
+ * behind them are refused. NOT_SHOWN, E_INVALID, E_SIZE, E_INDEX, E_TRUNCATED, E_HEIGHT, E_MEMORY. */
 PAXIDORE_ANSWERS PAXIDORE_NOT_NULL((2)) int32_t paxidore_verify(uint32_t hashing, const uint8_t root[32], size_t size,
     size_t index, const uint8_t *leaf, size_t leaf_len, const uint8_t *path, size_t path_len);
 
-/* The same of several leaves, one for each index; the indexes rise. Also E_COUNT, E_LENGTHS, before E_TRUNCATED. */
+/* The same of several leaves, one for each index; the indexes rise. Also E_COUNT, E_LENGTHS, before E_INDEX. */
 PAXIDORE_ANSWERS PAXIDORE_NOT_NULL((2)) int32_t paxidore_multi_verify(uint32_t hashing, const uint8_t root[32],
     size_t size, const size_t *indexes, size_t indexes_count, const uint8_t *leaves, size_t leaves_len,
     const size_t *lengths, size_t count, const uint8_t *proof, size_t proof_len);
@@ -137,7 +141,7 @@ PAXIDORE_ANSWERS PAXIDORE_NOT_NULL((3)) int32_t paxidore_multi_path(
 #define PAXIDORE_TREEBYTES(size) (PAXIDORE_DIGESTBYTES * PAXIDORE_TREE_DIGESTS(size))
 
 /* Writes the tree above the leaves: first the digest of each leaf, from the first on, then the digests above them, from
- * the lowest up. E_INVALID, E_SIZE, E_ROOM where the tree has not `tree_len` digests, E_LENGTHS. */
+ * the lowest up. E_INVALID, E_SIZE also where the tree has not `tree_len` digests, E_LENGTHS. */
 PAXIDORE_ANSWERS int32_t paxidore_tree_build(uint8_t *tree, size_t tree_len, uint32_t hashing,
     const uint8_t *leaves, size_t leaves_len, const size_t *lengths, size_t count);
 
@@ -170,7 +174,7 @@ PAXIDORE_ANSWERS PAXIDORE_NOT_NULL((3)) int32_t paxidore_tree_multi_path(
     const size_t *indexes, size_t indexes_count);
 
 /* OK where each digest above the leaves' is the hash of the two below it, else NOT_SHOWN. E_INVALID, E_SIZE. */
-PAXIDORE_ANSWERS int32_t paxidore_tree_check(const uint8_t *tree, size_t tree_len, uint32_t hashing);
+PAXIDORE_ANSWERS int32_t paxidore_tree_check(uint32_t hashing, const uint8_t *tree, size_t tree_len);
 
 /* ---- Clients of a transparency log of any size (RFC 6962 and RFC 9162, section 2.1), which hashes as the trees above.
  * A log publishes its root and its size. Its proofs are their digests alone, in the order of the standard. */
@@ -192,8 +196,8 @@ PAXIDORE_ANSWERS PAXIDORE_NOT_NULL((1, 4)) int32_t paxidore_log_verify_inclusion
  * root and size: then each list of the new size and root begins with each list of the old ones, or two different inputs
  * with one SHA-256 are at hand. Of equal sizes the proof has no bytes and the roots are to be equal. NOT_SHOWN, E_SIZE
  * for the old size 0 and for one above the new size, E_TRUNCATED, E_INVALID, E_MEMORY. */
-PAXIDORE_ANSWERS PAXIDORE_NOT_NULL((2, 4)) int32_t paxidore_log_verify_consistency(size_t old_size,
-    const uint8_t old_root[32], size_t new_size, const uint8_t new_root[32], const uint8_t *proof, size_t proof_len);
+PAXIDORE_ANSWERS PAXIDORE_NOT_NULL((1, 3)) int32_t paxidore_log_verify_consistency(const uint8_t old_root[32],
+    size_t old_size, const uint8_t new_root[32], size_t new_size, const uint8_t *proof, size_t proof_len);
 
 /* ---- Keepers of a transparency log of any size. What is kept are the stored digests: of each complete subtree of 2^k
  * entries the root, in the order in which the subtrees are completed. What is stored is never written again, so it can
@@ -346,7 +350,7 @@ enum paxidore_field {
 
 /* Writes the bytes of ready parameters over PAXIDORE_BLS12_381_FR or PAXIDORE_BN254_FR: those that the Grain generator
  * makes, with the counts of rounds of arkworks over the first and of circomlib over the second, for a `rate` from 2 to
- * 8 and a capacity of one. E_INVALID where there are none, E_ROOM, E_MEMORY. */
+ * 8 and a capacity of one. E_INVALID for another field, E_COUNT for another rate, E_ROOM, E_MEMORY. */
 PAXIDORE_ANSWERS PAXIDORE_NOT_NULL((3)) int32_t paxidore_transcript_ready_parameters(
     uint8_t *parameters, size_t parameters_room, size_t *parameters_len, uint32_t field, size_t rate);
 
@@ -420,9 +424,9 @@ PAXIDORE_ANSWERS PAXIDORE_NOT_NULL((3)) int32_t paxidore_poseidon_path(
     const uint8_t *elements, size_t count, size_t index);
 
 /* OK where the bytes of a path show that `element` stands at `index` among `size` elements with this root: then it does
- * in every list of so many with this root, or two different pairs with one hash are at hand. NOT_SHOWN, E_COUNT,
- * E_INDEX, E_TRUNCATED and E_INVALID for bytes of fewer or more digests than a path of this index and size has,
- * E_INVALID for an element or a digest that is not below the modulus, E_MEMORY. */
+ * in every list of so many with this root, or two different pairs with one hash are at hand. NOT_SHOWN, E_COUNT, E_SIZE
+ * for no element, E_INDEX, E_TRUNCATED and E_INVALID for bytes of fewer or more digests than a path of this index and
+ * size has, E_INVALID for an element or a digest that is not below the modulus, E_MEMORY. */
 PAXIDORE_ANSWERS PAXIDORE_NOT_NULL((3, 6)) int32_t paxidore_poseidon_verify(const uint8_t *table, size_t table_len,
     const uint8_t root[32], size_t size, size_t index, const uint8_t element[32], const uint8_t *path, size_t path_len);
 
@@ -491,7 +495,7 @@ typedef struct paxidore_blake2s_state {
 PAXIDORE_NOT_NULL((1)) void paxidore_blake2s_init(paxidore_blake2s_state *state);
 PAXIDORE_NOT_NULL((1)) void paxidore_blake2s_update(paxidore_blake2s_state *state,
     const uint8_t *input, size_t input_len);
-PAXIDORE_NOT_NULL((1, 2)) void paxidore_blake2s_final(paxidore_blake2s_state *state, uint8_t digest[32]);
+PAXIDORE_NOT_NULL((1, 2)) void paxidore_blake2s_final(uint8_t digest[32], paxidore_blake2s_state *state);
 
 #ifdef __cplusplus
 }

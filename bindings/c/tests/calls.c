@@ -103,9 +103,12 @@ static void paths(const struct hashing *h) {
         CHECK(paxidore_verify(h->number, root, SIZE, index, (const uint8_t *)"other", 5, path, len) == PAXIDORE_NOT_SHOWN);
         CHECK(paxidore_verify(h->number, path, SIZE, index, leaf, LENGTHS[index], path, len) == PAXIDORE_NOT_SHOWN);
         CHECK(paxidore_verify(h->number, root, SIZE, index ^ 1, leaf, LENGTHS[index], path, len) == PAXIDORE_E_INVALID);
-        CHECK(paxidore_verify(h->number, root, SIZE, index + SIZE, leaf, LENGTHS[index], path, len) == PAXIDORE_E_INVALID);
+        CHECK(paxidore_verify(h->number, root, SIZE, index + SIZE, leaf, LENGTHS[index], path, len) == PAXIDORE_E_INDEX);
+        CHECK(paxidore_verify(h->number, root, SIZE, SIZE_MAX, NULL, 0, NULL, 0) == PAXIDORE_E_INDEX);
+        CHECK(paxidore_verify(h->number, root, SIZE - 1, SIZE, NULL, 0, NULL, 0) == PAXIDORE_E_SIZE);
         CHECK(paxidore_verify(h->number, root, 2 * SIZE, index, leaf, LENGTHS[index], path, len) == PAXIDORE_E_HEIGHT);
-        CHECK(paxidore_verify(h->number, root, SIZE / 2, index, leaf, LENGTHS[index], path, len) == PAXIDORE_E_HEIGHT);
+        CHECK(paxidore_verify(h->number, root, SIZE / 2, index, leaf, LENGTHS[index], path, len) ==
+              (index < SIZE / 2 ? PAXIDORE_E_HEIGHT : PAXIDORE_E_INDEX));
         CHECK(paxidore_verify(h->number, root, SIZE - 1, index, leaf, LENGTHS[index], path, len) == PAXIDORE_E_SIZE);
         CHECK(paxidore_verify(h->number, root, 0, index, leaf, LENGTHS[index], path, len) == PAXIDORE_E_SIZE);
         CHECK(paxidore_verify(h->number, root, 1, index, leaf, LENGTHS[index], path, len) == PAXIDORE_E_SIZE);
@@ -185,11 +188,13 @@ static void multi_paths(const struct hashing *h) {
     CHECK(paxidore_multi_path(proof, sizeof proof, &len, h->number, LEAVES, LEAVES_LEN, LENGTHS, SIZE, given, 5) == PAXIDORE_OK);
     CHECK(paxidore_multi_path(other, sizeof other, &short_len, h->number, LEAVES, LEAVES_LEN, LENGTHS, SIZE, rising, 3) == PAXIDORE_OK);
     CHECK(len == short_len && memcmp(proof, other, len) == 0);
-    const size_t past[2] = {3, SIZE};
+    const size_t past[2] = {3, SIZE}, none[2] = {0, 0};
     CHECK(paxidore_multi_path(proof, sizeof proof, &len, h->number, LEAVES, LEAVES_LEN, LENGTHS, SIZE, past, 2) == PAXIDORE_E_INDEX);
     CHECK(paxidore_multi_path(proof, sizeof proof, &len, h->number, LEAVES, LEAVES_LEN, LENGTHS, SIZE, NULL, 0) == PAXIDORE_E_INDEX);
-    CHECK(paxidore_multi_verify(h->number, root, SIZE, NULL, 0, NULL, 0, NULL, 0, proof, len) == PAXIDORE_E_INVALID);
-    CHECK(paxidore_multi_verify(h->number, root, SIZE, NULL, 0, NULL, 0, NULL, 0, NULL, 0) == PAXIDORE_E_TRUNCATED);
+    CHECK(paxidore_multi_verify(h->number, root, SIZE, past, 2, LEAVES, 0, none, 2, proof, len) == PAXIDORE_E_INDEX);
+    CHECK(paxidore_multi_verify(h->number, root, SIZE, past, 2, LEAVES, 1, none, 2, proof, len) == PAXIDORE_E_LENGTHS);
+    CHECK(paxidore_multi_verify(h->number, root, SIZE, NULL, 0, NULL, 0, NULL, 0, proof, len) == PAXIDORE_E_INDEX);
+    CHECK(paxidore_multi_verify(h->number, root, SIZE, NULL, 0, NULL, 0, NULL, 0, NULL, 0) == PAXIDORE_E_INDEX);
 }
 
 /* The path of entry 3 of seven and the proof that seven continue three, by a recursion over hashlib. */
@@ -228,23 +233,23 @@ static void logs(void) {
         other[bit / 8] ^= (uint8_t)(1 << bit % 8);
         CHECK(paxidore_log_verify_inclusion(ROOT_7, 7, 3, entry, 2, other, 96) == PAXIDORE_NOT_SHOWN);
     }
-    CHECK(paxidore_log_verify_consistency(3, ROOT_3, 7, ROOT_7, proof, 128) == PAXIDORE_OK);
-    CHECK(paxidore_log_verify_consistency(3, ROOT_7, 7, ROOT_7, proof, 128) == PAXIDORE_NOT_SHOWN);
-    CHECK(paxidore_log_verify_consistency(3, ROOT_3, 7, ROOT_3, proof, 128) == PAXIDORE_NOT_SHOWN);
-    CHECK(paxidore_log_verify_consistency(4, ROOT_3, 7, ROOT_7, proof, 128) == PAXIDORE_E_INVALID);
-    CHECK(paxidore_log_verify_consistency(3, ROOT_3, 9, ROOT_7, proof, 128) == PAXIDORE_E_TRUNCATED);
-    CHECK(paxidore_log_verify_consistency(7, ROOT_7, 7, ROOT_7, NULL, 0) == PAXIDORE_OK);
-    CHECK(paxidore_log_verify_consistency(7, ROOT_3, 7, ROOT_7, NULL, 0) == PAXIDORE_NOT_SHOWN);
-    CHECK(paxidore_log_verify_consistency(7, ROOT_7, 7, ROOT_7, proof, 1) == PAXIDORE_E_INVALID);
-    CHECK(paxidore_log_verify_consistency(0, ROOT_3, 7, ROOT_7, proof, 128) == PAXIDORE_E_SIZE);
-    CHECK(paxidore_log_verify_consistency(8, ROOT_3, 7, ROOT_7, proof, 128) == PAXIDORE_E_SIZE);
+    CHECK(paxidore_log_verify_consistency(ROOT_3, 3, ROOT_7, 7, proof, 128) == PAXIDORE_OK);
+    CHECK(paxidore_log_verify_consistency(ROOT_7, 3, ROOT_7, 7, proof, 128) == PAXIDORE_NOT_SHOWN);
+    CHECK(paxidore_log_verify_consistency(ROOT_3, 3, ROOT_3, 7, proof, 128) == PAXIDORE_NOT_SHOWN);
+    CHECK(paxidore_log_verify_consistency(ROOT_3, 4, ROOT_7, 7, proof, 128) == PAXIDORE_E_INVALID);
+    CHECK(paxidore_log_verify_consistency(ROOT_3, 3, ROOT_7, 9, proof, 128) == PAXIDORE_E_TRUNCATED);
+    CHECK(paxidore_log_verify_consistency(ROOT_7, 7, ROOT_7, 7, NULL, 0) == PAXIDORE_OK);
+    CHECK(paxidore_log_verify_consistency(ROOT_3, 7, ROOT_7, 7, NULL, 0) == PAXIDORE_NOT_SHOWN);
+    CHECK(paxidore_log_verify_consistency(ROOT_7, 7, ROOT_7, 7, proof, 1) == PAXIDORE_E_INVALID);
+    CHECK(paxidore_log_verify_consistency(ROOT_3, 0, ROOT_7, 7, proof, 128) == PAXIDORE_E_SIZE);
+    CHECK(paxidore_log_verify_consistency(ROOT_3, 8, ROOT_7, 7, proof, 128) == PAXIDORE_E_SIZE);
     for (size_t front = 0; front < 128; front++)
-        CHECK(paxidore_log_verify_consistency(3, ROOT_3, 7, ROOT_7, front ? proof : NULL, front) == PAXIDORE_E_TRUNCATED);
-    CHECK(paxidore_log_verify_consistency(3, ROOT_3, 7, ROOT_7, proof, 129) == PAXIDORE_E_INVALID);
+        CHECK(paxidore_log_verify_consistency(ROOT_3, 3, ROOT_7, 7, front ? proof : NULL, front) == PAXIDORE_E_TRUNCATED);
+    CHECK(paxidore_log_verify_consistency(ROOT_3, 3, ROOT_7, 7, proof, 129) == PAXIDORE_E_INVALID);
     for (size_t bit = 0; bit < 8 * 128; bit++) {
         memcpy(other, proof, 128);
         other[bit / 8] ^= (uint8_t)(1 << bit % 8);
-        CHECK(paxidore_log_verify_consistency(3, ROOT_3, 7, ROOT_7, other, 128) == PAXIDORE_NOT_SHOWN);
+        CHECK(paxidore_log_verify_consistency(ROOT_3, 3, ROOT_7, 7, other, 128) == PAXIDORE_NOT_SHOWN);
     }
 }
 
@@ -267,16 +272,16 @@ static void blake2s(void) {
                 paxidore_blake2s_update(&state, text + at, len - at < piece ? len - at : piece);
             paxidore_blake2s_update(&state, NULL, 0);
             copy = state;
-            paxidore_blake2s_final(&state, pieces);
+            paxidore_blake2s_final(pieces, &state);
             CHECK(memcmp(once, pieces, 32) == 0);
-            paxidore_blake2s_final(&copy, pieces);
+            paxidore_blake2s_final(pieces, &copy);
             CHECK(memcmp(once, pieces, 32) == 0);
         }
     /* memory that no call made ready: any digest, and no harm */
     memset(&state, 0xff, sizeof state);
     paxidore_blake2s_update(&state, text, sizeof text);
-    paxidore_blake2s_final(&state, pieces);
-    paxidore_blake2s_final(&state, pieces);
+    paxidore_blake2s_final(pieces, &state);
+    paxidore_blake2s_final(pieces, &state);
     CHECK(is_hex(pieces, "69217a3079908094e11121d042354a7c1f55b6482ca1a51e1b250dfd1ed0eef9"));
 }
 
@@ -344,7 +349,7 @@ static void hashings(void) {
         CHECK(paxidore_tree_rebuild(tree, 15, none) == PAXIDORE_E_INVALID);
         CHECK(paxidore_tree_set(tree, 15, none, 0, LEAVES, 1) == PAXIDORE_E_INVALID);
         CHECK(paxidore_tree_set_many(tree, 15, none, indexes, 1, LEAVES, 0, LENGTHS, 1) == PAXIDORE_E_INVALID);
-        CHECK(paxidore_tree_check(tree, 15, none) == PAXIDORE_E_INVALID);
+        CHECK(paxidore_tree_check(none, tree, 15) == PAXIDORE_E_INVALID);
     }
     CHECK(memcmp(root, kept, 32) == 0);
     CHECK(len == 7 && path[0] == 7 && path[PATH - 1] == 7 && tree[0] == 7 && tree[sizeof tree - 1] == 7);
@@ -376,7 +381,9 @@ static void transcripts(void) {
     CHECK(memcmp(bytes, next, 9) == 0);
     CHECK(paxidore_transcript_ready_parameters(ready, sizeof ready, &len, 3, 2) == PAXIDORE_OK && len == sizeof ready);
     CHECK(paxidore_transcript_ready_parameters(ready, sizeof ready, &len, 4, 8) == PAXIDORE_E_ROOM);
-    CHECK(paxidore_transcript_ready_parameters(ready, sizeof ready, &len, 4, 1) == PAXIDORE_E_INVALID);
+    CHECK(paxidore_transcript_ready_parameters(ready, sizeof ready, &len, 4, 1) == PAXIDORE_E_COUNT);
+    CHECK(paxidore_transcript_ready_parameters(ready, sizeof ready, &len, 3, 9) == PAXIDORE_E_COUNT);
+    CHECK(paxidore_transcript_ready_parameters(ready, sizeof ready, &len, 1, 9) == PAXIDORE_E_INVALID);
     CHECK(paxidore_transcript_ready_parameters(ready, sizeof ready, &len, 1, 2) == PAXIDORE_E_INVALID);
 }
 

@@ -127,7 +127,7 @@ static int32_t ask(const struct proof *p, const uint8_t *bytes, size_t len) {
         return paxidore_multi_verify(PAXIDORE_RFC6962, p->root, p->size, p->indexes, p->count, p->leaves, 8 * p->count, lengths, p->count,
                                              bytes, len);
     case INCLUSION: return paxidore_log_verify_inclusion(p->root, p->size, p->indexes[0], p->leaves, 8, bytes, len);
-    default: return paxidore_log_verify_consistency(p->old_size, p->old_root, p->size, p->root, bytes, len);
+    default: return paxidore_log_verify_consistency(p->old_root, p->old_size, p->root, p->size, bytes, len);
     }
 }
 

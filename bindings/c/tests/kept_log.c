@@ -218,7 +218,7 @@ static void roots_and_proofs(void) {
             CHECK(len == needed && memcmp(proof, right, needed) == 0);
             CHECK(is_filled(proof + needed, sizeof proof - needed, 0xaa));
             mth(other, 0, old);
-            CHECK(paxidore_log_verify_consistency(old, other, size, root, proof, len) == PAXIDORE_OK);
+            CHECK(paxidore_log_verify_consistency(other, old, root, size, proof, len) == PAXIDORE_OK);
         }
         CHECK(paxidore_log_check(stored, STORED, size) == PAXIDORE_OK);
         if (size)

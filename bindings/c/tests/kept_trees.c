@@ -82,18 +82,18 @@ static void builds(const struct hashing *h) {
             if (count != 2 && count != 4 && count != 8) {
                 CHECK(answer == PAXIDORE_E_SIZE && is_filled(tree, 32 * digests, 0xaa));
             } else if (digests != PAXIDORE_TREE_DIGESTS(count)) {
-                CHECK(answer == PAXIDORE_E_ROOM && is_filled(tree, 32 * digests, 0xaa));
+                CHECK(answer == PAXIDORE_E_SIZE && is_filled(tree, 32 * digests, 0xaa));
             } else {
                 uint8_t root[32];
                 CHECK(answer == PAXIDORE_OK && PAXIDORE_TREEBYTES(count) == 32 * digests);
                 CHECK(paxidore_tree_root(root, tree, digests) == PAXIDORE_OK && memcmp(root, tree, 32) == 0);
                 if (h->roots[count])
                     CHECK(is_hex(root, h->roots[count]));
-                CHECK(paxidore_tree_check(tree, digests, h->number) == PAXIDORE_OK);
+                CHECK(paxidore_tree_check(h->number, tree, digests) == PAXIDORE_OK);
                 memset(tree, 0xaa, 32 * (count - 1));
-                CHECK(paxidore_tree_check(tree, digests, h->number) == PAXIDORE_NOT_SHOWN);
+                CHECK(paxidore_tree_check(h->number, tree, digests) == PAXIDORE_NOT_SHOWN);
                 CHECK(paxidore_tree_rebuild(tree, digests, h->number) == PAXIDORE_OK && memcmp(root, tree, 32) == 0);
-                CHECK(paxidore_tree_check(tree, digests, h->number) == PAXIDORE_OK);
+                CHECK(paxidore_tree_check(h->number, tree, digests) == PAXIDORE_OK);
             }
             free(tree);
         }
@@ -107,7 +107,7 @@ static void builds(const struct hashing *h) {
     CHECK(paxidore_tree_build(tree, DIGESTS, h->number, LEAVES, LEAVES_LEN, lengths, SIZE) == PAXIDORE_E_LENGTHS);
     CHECK(is_filled(tree, 32 * DIGESTS, 0xaa));
     memset(lengths, 0, sizeof lengths);
-    CHECK(paxidore_tree_build(tree, DIGESTS, h->number, NULL, 0, lengths, SIZE) == PAXIDORE_OK && paxidore_tree_check(tree, DIGESTS, h->number) == PAXIDORE_OK);
+    CHECK(paxidore_tree_build(tree, DIGESTS, h->number, NULL, 0, lengths, SIZE) == PAXIDORE_OK && paxidore_tree_check(h->number, tree, DIGESTS) == PAXIDORE_OK);
     free(tree);
 }
 
@@ -118,7 +118,7 @@ static void sizes(const struct hashing *h) {
         size_t len = 7, sized = digests > 2 && (digests & (digests + 1)) == 0;
         memset(root, 0xaa, 32);
         if (sized) {
-            CHECK(paxidore_tree_rebuild(tree, digests, h->number) == PAXIDORE_OK && paxidore_tree_check(tree, digests, h->number) == PAXIDORE_OK);
+            CHECK(paxidore_tree_rebuild(tree, digests, h->number) == PAXIDORE_OK && paxidore_tree_check(h->number, tree, digests) == PAXIDORE_OK);
             CHECK(paxidore_tree_root(root, tree, digests) == PAXIDORE_OK);
             CHECK(paxidore_tree_set(tree, digests, h->number, digests / 2, LEAVES, 3) == PAXIDORE_OK);
             CHECK(paxidore_tree_path(path, sizeof path, &len, tree, digests, digests / 2) == PAXIDORE_OK);
@@ -126,10 +126,10 @@ static void sizes(const struct hashing *h) {
             CHECK(paxidore_tree_multi_path(path, sizeof path, &len, tree, digests, &last, 1) == PAXIDORE_OK);
             CHECK(paxidore_tree_multi_path(path, sizeof path, &len, tree, digests, &past, 1) == PAXIDORE_E_INDEX);
             CHECK(paxidore_tree_set(tree, digests, h->number, digests / 2 + 1, LEAVES, 3) == PAXIDORE_E_INDEX);
-            CHECK(paxidore_tree_check(tree, digests, h->number) == PAXIDORE_OK);
+            CHECK(paxidore_tree_check(h->number, tree, digests) == PAXIDORE_OK);
         } else {
             uint8_t *at = digests ? tree : NULL;
-            CHECK(paxidore_tree_rebuild(at, digests, h->number) == PAXIDORE_E_SIZE && paxidore_tree_check(at, digests, h->number) == PAXIDORE_E_SIZE);
+            CHECK(paxidore_tree_rebuild(at, digests, h->number) == PAXIDORE_E_SIZE && paxidore_tree_check(h->number, at, digests) == PAXIDORE_E_SIZE);
             CHECK(paxidore_tree_root(root, at, digests) == PAXIDORE_E_SIZE && is_filled(root, 32, 0xaa));
             CHECK(paxidore_tree_set(at, digests, h->number, 0, LEAVES, 3) == PAXIDORE_E_SIZE);
             CHECK(paxidore_tree_path(path, sizeof path, &len, at, digests, 0) == PAXIDORE_E_SIZE && len == 7);
@@ -149,7 +149,7 @@ static void changes(const struct hashing *h) {
         memset(leaves + at, 'x', LENGTHS[index]);
         CHECK(paxidore_tree_set(tree, DIGESTS, h->number, index, LENGTHS[index] ? leaves + at : NULL, LENGTHS[index]) == PAXIDORE_OK);
         CHECK(paxidore_root(root, h->number, leaves, LEAVES_LEN, LENGTHS, SIZE) == PAXIDORE_OK && memcmp(root, tree, 32) == 0);
-        CHECK(paxidore_tree_check(tree, DIGESTS, h->number) == PAXIDORE_OK);
+        CHECK(paxidore_tree_check(h->number, tree, DIGESTS) == PAXIDORE_OK);
         for (size_t i = 0; i < SIZE; i++) {
             CHECK(paxidore_tree_path(path, PATH, &len, tree, DIGESTS, i) == PAXIDORE_OK && len == PAXIDORE_PATHBYTES(3));
             CHECK(paxidore_path(other, PATH, &other_len, h->number, leaves, LEAVES_LEN, LENGTHS, SIZE, i) == PAXIDORE_OK);
@@ -168,14 +168,14 @@ static void changes(const struct hashing *h) {
     memcpy(root, tree, 32);
     CHECK(paxidore_tree_set(tree, DIGESTS, h->number, SIZE, leaves, 3) == PAXIDORE_E_INDEX);
     CHECK(paxidore_tree_set(tree, DIGESTS, h->number, SIZE_MAX, leaves, 3) == PAXIDORE_E_INDEX);
-    CHECK(memcmp(root, tree, 32) == 0 && paxidore_tree_check(tree, DIGESTS, h->number) == PAXIDORE_OK);
+    CHECK(memcmp(root, tree, 32) == 0 && paxidore_tree_check(h->number, tree, DIGESTS) == PAXIDORE_OK);
     /* each bit: none may be other */
     for (size_t bit = 0; bit < 8 * 32 * DIGESTS; bit++) {
         tree[bit / 8] ^= (uint8_t)(1 << bit % 8);
-        CHECK(paxidore_tree_check(tree, DIGESTS, h->number) == PAXIDORE_NOT_SHOWN);
+        CHECK(paxidore_tree_check(h->number, tree, DIGESTS) == PAXIDORE_NOT_SHOWN);
         tree[bit / 8] ^= (uint8_t)(1 << bit % 8);
     }
-    CHECK(paxidore_tree_check(tree, DIGESTS, h->number) == PAXIDORE_OK);
+    CHECK(paxidore_tree_check(h->number, tree, DIGESTS) == PAXIDORE_OK);
     free(tree);
     free(path);
     free(other);
@@ -196,7 +196,7 @@ static void several(const struct hashing *h) {
     CHECK(paxidore_tree_set_many(tree, DIGESTS, h->number, indexes, 4, LEAVES, LEAVES_LEN, lengths, 4) == PAXIDORE_OK);
     for (size_t i = 0, at = 0; i < 4; at += lengths[i++])
         CHECK(paxidore_tree_set(other, DIGESTS, h->number, indexes[i], LEAVES + at, lengths[i]) == PAXIDORE_OK);
-    CHECK(memcmp(tree, other, 32 * DIGESTS) == 0 && paxidore_tree_check(tree, DIGESTS, h->number) == PAXIDORE_OK);
+    CHECK(memcmp(tree, other, 32 * DIGESTS) == 0 && paxidore_tree_check(h->number, tree, DIGESTS) == PAXIDORE_OK);
     free(tree);
     free(other);
 }
@@ -257,7 +257,7 @@ static void files(const struct hashing *h) {
     CHECK(munmap(map, bytes + 1) == 0);
     const uint8_t *again = mmap(NULL, bytes + 1, PROT_READ, MAP_SHARED, file, 0);
     CHECK(again != MAP_FAILED && again[0] == 0);
-    CHECK(paxidore_tree_check(again + 1, DIGESTS, h->number) == PAXIDORE_OK && memcmp(root, again + 1, 32) == 0);
+    CHECK(paxidore_tree_check(h->number, again + 1, DIGESTS) == PAXIDORE_OK && memcmp(root, again + 1, 32) == 0);
     CHECK(munmap((void *)(uintptr_t)again, bytes + 1) == 0 && close(file) == 0 && unlink(name) == 0);
 }
 

@@ -127,7 +127,7 @@ static void refusals(void) {
     CHECK(VERIFY(table, 3, 0, elements[0], 64) == PAXIDORE_OK);
     CHECK(VERIFY(three, 3, 0, elements[0], 64) == PAXIDORE_E_COUNT);
     CHECK(VERIFY(table, 3, 3, elements[0], 64) == PAXIDORE_E_INDEX);
-    CHECK(VERIFY(table, 0, 0, elements[0], 0) == PAXIDORE_E_INDEX);
+    CHECK(VERIFY(table, 0, 0, elements[0], 0) == PAXIDORE_E_SIZE);
     CHECK(VERIFY(table, 4, 0, elements[0], 64) == PAXIDORE_OK); /* the path of a tree of four has as many digests */
     CHECK(VERIFY(table, 5, 0, elements[0], 64) == PAXIDORE_E_TRUNCATED);
     CHECK(VERIFY(table, 2, 0, elements[0], 64) == PAXIDORE_E_INVALID);
@@ -148,6 +148,7 @@ static void refusals(void) {
     KEEPS(paxidore_poseidon_log_root(root, table, table_len, stored[0], 4, SIZE_MAX), PAXIDORE_E_SIZE);
     KEEPS(paxidore_poseidon_log_inclusion(path, 64, &len, table, table_len, stored[0], 4, 3, 3), PAXIDORE_E_INDEX);
     KEEPS(paxidore_poseidon_log_inclusion(path, 64, &len, table, table_len, stored[0], 4, 5, 0), PAXIDORE_E_SIZE);
+    KEEPS(paxidore_poseidon_log_inclusion(path, 64, &len, table, table_len, stored[0], 4, 0, 0), PAXIDORE_E_SIZE);
     memcpy(stored[3], MODULUS, 32);
     KEEPS(paxidore_poseidon_log_root(root, table, table_len, stored[0], 4, 3), PAXIDORE_E_INVALID);
     KEEPS(paxidore_poseidon_log_append(more[0], 8, &len, table, table_len, stored[0], 4, 3, elements[3], 1), PAXIDORE_E_INVALID);

@@ -71,7 +71,7 @@ static int32_t call(int which) {
     case 4:
         return paxidore_multi_verify(PAXIDORE_RFC6962, root, 8, INDEXES, 3, (const uint8_t *)"bbbeeefff", 9, SHOWN, 3, proof, proof_len);
     case 5: return paxidore_log_verify_inclusion(root, 8, 4, LEAVES + 12, 3, log_path, sizeof log_path);
-    case 6: return paxidore_log_verify_consistency(4, halves[0], 8, root, halves[1], 32);
+    case 6: return paxidore_log_verify_consistency(halves[0], 4, root, 8, halves[1], 32);
     case 7: return paxidore_log_append(to_more, 8, &to_len, kept, 8, 5, LEAVES + 15, 9, LENGTHS + 5, 3);
     case 8: return paxidore_log_inclusion(to_path, sizeof to_path, &to_len, kept, 15, 8, 4);
     case 9: return paxidore_log_consistency(to_path, sizeof to_path, &to_len, kept, 15, 4, 8);
@@ -197,7 +197,7 @@ int main(void) {
         paxidore_tree_set_many(tree, 15, PAXIDORE_RFC6962, INDEXES, 3, (const uint8_t *)"bbbeeefff", 9, SHOWN, 3) == PAXIDORE_OK &&
         paxidore_tree_root(to_root, tree, 15) == PAXIDORE_OK && memcmp(to_root, root, 32) == 0 &&
         paxidore_tree_path(to_path, sizeof to_path, &to_len, tree, 15, 4) == PAXIDORE_OK &&
-        memcmp(to_path, path, sizeof path) == 0 && paxidore_tree_check(tree, 15, PAXIDORE_RFC6962) == PAXIDORE_OK && calls == 0)
+        memcmp(to_path, path, sizeof path) == 0 && paxidore_tree_check(PAXIDORE_RFC6962, tree, 15) == PAXIDORE_OK && calls == 0)
         passed++;
     else
         failed++;

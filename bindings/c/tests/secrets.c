@@ -67,7 +67,7 @@ static int blake2s(void) {
     paxidore_blake2s_init(&state);
     paxidore_blake2s_update(&state, text, 65);
     paxidore_blake2s_update(&state, text + 65, sizeof(text) - 65);
-    paxidore_blake2s_final(&state, again);
+    paxidore_blake2s_final(again, &state);
     PUBLIC(digest);
     PUBLIC(again);
     return memcmp(digest, again, 32) == 0;

@@ -49,7 +49,7 @@ static int is_right(char *line) {
     if (count == 6 && strcmp(words[0], "consistency") == 0) {
         bytes_of(words[2], first), bytes_of(words[4], second);
         size_t proof = bytes_of(words[5], third);
-        return paxidore_log_verify_consistency(strtoull(words[1], NULL, 10), first, strtoull(words[3], NULL, 10), second, third,
+        return paxidore_log_verify_consistency(first, strtoull(words[1], NULL, 10), second, strtoull(words[3], NULL, 10), third,
                                                proof) == 0;
     }
     if (count == 5 && strcmp(words[0], "ed25519-sign") == 0) {

@@ -8,4 +8,4 @@ with Log.open(sys.argv[1]) as log:
     log.append([b"dan"])
     proof = log.consistency(size)
     print(Log.verify_inclusion(root, size, 1, b"bob", path))
-    print(Log.verify_consistency(size, root, len(log), log.root(), proof))
+    print(Log.verify_consistency(root, size, log.root(), len(log), proof))

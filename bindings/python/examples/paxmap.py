@@ -64,7 +64,8 @@ def answer(word: str, *words: str) -> str:
     if word == "put":
         return changed(*words)
     if word == "remove":
-        return changed(*words, "-")
+        path, name = words
+        return changed(path, name, "-")
     if word == "verify":
         count, root, name, value, parts = words
         try:

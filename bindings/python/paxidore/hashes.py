@@ -52,7 +52,7 @@ class Blake2s:
     def digest(self) -> bytes:
         """The digest of the text so far, which can go on."""
         digest = ctypes.create_string_buffer(DIGEST_BYTES)
-        _blake2s_final(self.copy()._state, digest)
+        _blake2s_final(digest, self.copy()._state)
         return digest.raw
 
     def __copy__(self) -> "Blake2s":

@@ -109,7 +109,7 @@ class Log:
 
     _inclusion = _call("log_verify_inclusion", ctypes.c_int32, _bytes, _size, _size, _bytes, _size, _bytes, _size)
     _inclusion_digest = _call("log_verify_inclusion_digest", ctypes.c_int32, _bytes, _size, _size, _bytes, _bytes, _size)
-    _consistency = _call("log_verify_consistency", ctypes.c_int32, _size, _bytes, _size, _bytes, _bytes, _size)
+    _consistency = _call("log_verify_consistency", ctypes.c_int32, _bytes, _size, _bytes, _size, _bytes, _size)
 
     def __init__(self) -> None:
         self._kept: "Optional[_Memory | _File]" = _Memory()
@@ -208,7 +208,7 @@ class Log:
     def _of(kept: "_Memory | _File", size: "Optional[int]") -> int:
         return kept.size() if size is None else _word("size", size)
 
-    def inclusion(self, index: int, size: "Optional[int]" = None) -> bytes:
+    def inclusion(self, index: int, *, size: "Optional[int]" = None) -> bytes:
         """The bytes of the path of an index in the first ``size`` entries.
 
         Raises ``SizeError`` for more than there are, ``IndexBeyondSize``, ``OutOfMemory``.
@@ -273,14 +273,14 @@ class Log:
         return answer == 0
 
     @staticmethod
-    def verify_consistency(old_size: int, old_root: bytes, new_size: int, new_root: bytes, proof: bytes) -> bool:
+    def verify_consistency(old_root: bytes, old_size: int, new_root: bytes, new_size: int, proof: bytes) -> bool:
         """Whether the proof shows that the log with the new root and size continues the one with the old root and size.
 
         Raises ``SizeError`` for the old size 0 and for one above the new size; ``TruncatedProof``, ``InvalidProof``,
         ``OutOfMemory``.
         """
-        old = _word("old_size", old_size), _digest(old_root, "old_root")
-        new = _word("new_size", new_size), _digest(new_root, "new_root")
+        old = _digest(old_root, "old_root"), _word("old_size", old_size)
+        new = _digest(new_root, "new_root"), _word("new_size", new_size)
         answer: int = Log._consistency(*old, *new, _exact("proof", proof), len(proof))
         if answer < 0:
             raise _refusal(answer)

@@ -190,7 +190,8 @@ class MapVersion(Mapping[bytes, bytes]):
         yield None, head[2]
 
     def __iter__(self) -> Iterator[bytes]:
-        """The keys, rising, of the map as it is when the first one is asked for. A map in memory is not to change meanwhile."""
+        """The keys, rising, of the map as it is when the first one is asked for. A map in memory is not to change meanwhile; of one in a
+        file, SQLite's log grows with each change as long as an iteration is left open: its ``close()`` ends it."""
         for key, _ in self._still():
             if key is not None:
                 yield key
@@ -450,7 +451,8 @@ class Map(MapVersion, MutableMapping[bytes, bytes]):
         return count, had
 
     def __iter__(self) -> Iterator[bytes]:
-        """The keys, rising, of the map as it is when the first one is asked for. A map in memory is not to change meanwhile."""
+        """The keys, rising, of the map as it is when the first one is asked for. A map in memory is not to change meanwhile; of one in a
+        file, SQLite's log grows with each change as long as an iteration is left open: its ``close()`` ends it."""
         batch = dict(self._batch() or {})
         stored = (key for key in super(Map, self).__iter__() if key not in batch)
         return iter(heapq.merge(stored, sorted(key for key, value in batch.items() if value is not None)))

@@ -150,8 +150,8 @@ def path(elements: Sequence[int], index: int) -> bytes:
 def verify(root: int, size: int, index: int, element: int, path: bytes) -> bool:
     """Whether the path shows that the element stands at the index among ``size`` elements with this root.
 
-    ``False`` says that the path was read and leads elsewhere. ``IndexBeyondSize``, ``TruncatedProof``, ``InvalidProof`` where the path has
-    more bytes or a digest that is not below the modulus, ``ElementError``, ``OutOfMemory``."""
+    ``False`` says that the path was read and leads elsewhere. ``SizeError`` for no element, ``IndexBeyondSize``, ``TruncatedProof``,
+    ``InvalidProof`` where the path has more bytes or a digest that is not below the modulus, ``ElementError``, ``OutOfMemory``."""
     expected, leaf, table = _element(root, "the root"), _element(element), _table_for(2)
     place = _word("size", size), _word("index", index)
     answer = _verify(table, len(table), expected, *place, leaf, _exact("path", path), len(path))
@@ -230,10 +230,10 @@ class Log:
             raise _refusal(answer)
         return int.from_bytes(written.raw, "little")
 
-    def inclusion(self, index: int, size: "Optional[int]" = None) -> bytes:
+    def inclusion(self, index: int, *, size: "Optional[int]" = None) -> bytes:
         """The bytes of the path of an index in the first ``size`` elements, as ``path`` returns them.
 
-        ``SizeError`` for more than there are, ``IndexBeyondSize``, ``OutOfMemory``."""
+        ``SizeError`` for more than there are, and for none, ``IndexBeyondSize``, ``OutOfMemory``."""
         written, length, place = ctypes.create_string_buffer(_PATH_BYTES), _size(), _word("index", index)
         answer = self._turn.run(self._asked, _log_inclusion, (written, _PATH_BYTES, ctypes.byref(length)), size, place)
         if answer != 0:

@@ -14,7 +14,7 @@ import ctypes
 import enum
 from typing import Any, List, Sequence, Tuple
 
-from ._library import Refused, _bytes, _call, _exact, _int, _refusal, _size, _word
+from ._library import CountError, Refused, _bytes, _call, _exact, _int, _refusal, _size, _word
 from ._turn import Turn
 
 _room = ctypes.c_void_p
@@ -116,11 +116,15 @@ def parameters_bytes(
 
 def ready_parameters(field: Field, rate: int) -> bytes:
     """Returns the bytes of ready parameters over ``Field.BLS12_381_FR`` or ``Field.BN254_FR``, for a rate from 2 to 8 and a capacity of
-    one: those that arkworks and circomlib have. ``TranscriptError`` where there are none, ``OutOfMemory``."""
+    one: those that arkworks and circomlib have. ``TranscriptError`` for another field, ``CountError`` for another rate,
+    ``OutOfMemory``."""
     size = _size(0)
     # the longest have 71 rows of constants and 9 of the matrix
     room = ctypes.create_string_buffer(64 + 80 * (8 + 9 * 32))
-    _done(_ready(room, len(room), ctypes.byref(size), Field(field), _word("rate", rate)))
+    answer = _ready(room, len(room), ctypes.byref(size), Field(field), _word("rate", rate))
+    if answer == CountError.code:
+        raise _refusal(answer)
+    _done(answer)
     return room.raw[: size.value]
 
 

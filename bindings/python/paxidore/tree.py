@@ -37,7 +37,7 @@ _set_many = _call("tree_set_many", ctypes.c_int32, _memory, _size, _hashing, _si
 _root = _call("tree_root", ctypes.c_int32, _memory, _memory, _size)
 _path = _call("tree_path", ctypes.c_int32, _memory, _size, _sizes, _memory, _size, _size)
 _multi_path = _call("tree_multi_path", ctypes.c_int32, _memory, _size, _sizes, _memory, _size, _sizes, _size)
-_check = _call("tree_check", ctypes.c_int32, _memory, _size, _hashing)
+_check = _call("tree_check", ctypes.c_int32, _hashing, _memory, _size)
 
 
 def _leaf_count(length: int) -> int:
@@ -183,7 +183,7 @@ class Tree:
 
     def check(self) -> bool:
         """Whether each digest above those of the leaves is the hash of the two below it. It hashes as much as ``rebuild``."""
-        return self._answer(_check, given=(self._trees._hashing,)) == 0
+        return self._answer(_check, self._trees._hashing, given=()) == 0
 
     def rebuild(self) -> None:
         """Writes all digests above those of the leaves that stand there."""

@@ -41,8 +41,8 @@ class Trees:
     def verify(self, root: bytes, size: int, index: int, leaf: bytes, path: bytes) -> bool:
         """Whether the path shows that the leaf stands at the index of the tree of ``size`` leaves with this root.
 
-        ``False`` says that the path was read and leads elsewhere. Raises ``SizeError``, ``TruncatedProof``, ``InvalidProof``,
-        ``HeightError``, ``OutOfMemory``. As all calls do: ``TypeError`` where an argument is not ``bytes`` itself, or no ``int``,
+        ``False`` says that the path was read and leads elsewhere. Raises ``SizeError``, ``IndexBeyondSize``, ``TruncatedProof``,
+        ``InvalidProof``, ``HeightError``, ``OutOfMemory``. As all calls do: ``TypeError`` where an argument is not ``bytes`` itself, or no ``int``,
         ``ValueError`` where the root has not 32 bytes, ``OverflowError`` where a number has not 64 bits.
         """
         _digest(root), _exact("leaf", leaf), _exact("path", path)
@@ -57,7 +57,7 @@ class Trees:
     ) -> bool:
         """Whether the proof shows each leaf at its index. The indexes rise, and there are as many leaves.
 
-        Raises as ``verify`` does, and ``CountError``.
+        Raises as ``verify`` does, ``IndexBeyondSize`` also where there is no index, and ``CountError``.
         """
         answer: int = _multi_verify(
             self._hashing,

@@ -112,10 +112,10 @@ def proofs_are(case, log, digests, size, pairs=None):
     root = mth(digests)
     case.assertEqual(log.root(size), root)
     for index in range(size) if pairs is None else (DRAWS.randrange(size) for _ in range(pairs)):
-        shown = log.inclusion(index, size)
+        shown = log.inclusion(index, size=size)
         case.assertEqual(shown, b"".join(path(index, digests)))
         case.assertTrue(Log.verify_inclusion_digest(root, size, index, digests[index], shown))
     for old in range(1, size + 1) if pairs is None else (DRAWS.randrange(1, size + 1) for _ in range(pairs)):
         shown = log.consistency(old, size)
         case.assertEqual(shown, b"".join(subproof(old, digests, True)))
-        case.assertTrue(Log.verify_consistency(old, mth(digests[:old]), size, root, shown))
+        case.assertTrue(Log.verify_consistency(mth(digests[:old]), old, root, size, shown))

@@ -93,9 +93,9 @@ class InMemory(unittest.TestCase):
         self.assertEqual(log.append([]), 0)
         log.append([b"a", b"b", b"c"])
         self.assertRaises(paxidore.IndexBeyondSize, log.inclusion, 3)
-        self.assertRaises(paxidore.IndexBeyondSize, log.inclusion, 2, 2)
-        self.assertRaises(paxidore.SizeError, log.inclusion, 0, 4)
-        self.assertRaises(paxidore.SizeError, log.inclusion, 0, 1 << 63)
+        self.assertRaises(paxidore.IndexBeyondSize, log.inclusion, 2, size=2)
+        self.assertRaises(paxidore.SizeError, log.inclusion, 0, size=4)
+        self.assertRaises(paxidore.SizeError, log.inclusion, 0, size=1 << 63)
         self.assertRaises(paxidore.SizeError, log.consistency, 3, 2)
         self.assertRaises(paxidore.SizeError, log.consistency, 0, 3)
         self.assertRaises(paxidore.SizeError, log.root, (1 << 64) - 1)
@@ -108,7 +108,7 @@ class InMemory(unittest.TestCase):
             for name, call in (
                 ("size", lambda: log.root(wrap(3))),
                 ("index", lambda: log.inclusion(wrap(1))),
-                ("size", lambda: log.inclusion(1, wrap(3))),
+                ("size", lambda: log.inclusion(1, size=wrap(3))),
                 ("old_size", lambda: log.consistency(wrap(1))),
                 ("size", lambda: log.consistency(1, wrap(3))),
             ):
@@ -147,7 +147,7 @@ class InMemory(unittest.TestCase):
         for size in range(22):
             self.assertEqual(len(log.root(size)), 32)
             for index in range(size):
-                log.inclusion(index, size), log.consistency(index + 1, size)
+                log.inclusion(index, size=size), log.consistency(index + 1, size)
         self.assertEqual(log.append(drawn(9)), 30)
 
     def test_threads(self):

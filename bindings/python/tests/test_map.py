@@ -2,6 +2,7 @@
 import random
 import threading
 import unittest
+from unittest import mock
 
 import paxidore
 from paxidore import Map
@@ -126,6 +127,29 @@ class Agrees(unittest.TestCase):
             own.clear()
             self.assertEqual((dict(own), len(own)), ({}, 0))
         self.assertEqual((dict(own), len(own)), ({}, 0))
+
+    def test_the_length_of_a_batch(self):
+        """It makes no proof, and reads each node of the keys' ways once, however often it is asked for."""
+        own = Map()
+        own.update({near(i): sha(b"%d" % i) for i in range(200)})
+        read, node = [], own._store.node
+
+        def counted(digest):
+            read.append(digest)
+            return node(digest)
+
+        proves = mock.patch.object(paxidore.map, "_map_prove", side_effect=AssertionError)
+        with own.batch(), proves, mock.patch.object(own._store, "node", counted):
+            own.update({near(i): sha(b"other") for i in range(150, 250)})
+            own.remove([near(i) for i in range(20)])
+            self.assertEqual([len(own) for _ in range(50)], [230] * 50)
+            self.assertEqual(len(read), len(set(read)))
+            # behind a further change the way of its key alone
+            before = len(read)
+            own[near(300)] = sha(b"300")
+            self.assertEqual(len(own), 231)
+            self.assertLess(len(read) - before, 40)
+        self.assertEqual(len(own), 231)
 
     def test_an_exception_leaves_the_map(self):
         own = Map()

@@ -188,6 +188,32 @@ class Files(unittest.TestCase):
                 maker.join()
         self.assertEqual(refused, [])
 
+    def test_an_iteration_that_is_left_open(self):
+        """SQLite's log grows as long as it is open, and is used again from its begin once it has ended."""
+
+        def changed(own, turns):
+            for turn in range(turns):
+                own.update({near(i): sha(b"%d %d" % (turn, i)) for i in range(50)})
+            return os.path.getsize(self.path + "-wal")
+
+        with Map.open(self.path) as own:
+            bound = changed(own, 40)
+            self.assertEqual(changed(own, 40), bound)
+            entries = dict(own.items())
+            keys = iter(own)
+            first = next(keys)
+            grown = changed(own, 80)
+            self.assertGreater(grown, bound * 3 // 2)
+            # it has what there was at its begin
+            self.assertEqual([first, *keys], sorted(entries))
+            self.assertEqual(changed(own, 40), grown)
+            for end in (lambda left: left.close(), lambda left: None):
+                keys = iter(own)
+                next(keys)
+                end(keys)
+                del keys
+                self.assertEqual(changed(own, 40), grown)
+
     @unittest.skipUnless(hasattr(os, "fork"), "no fork")
     def test_forked_process_ends(self):
         """The end of a forked process takes nothing from whoever keeps the map then, also where that one is killed."""

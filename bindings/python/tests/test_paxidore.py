@@ -201,6 +201,8 @@ class Calls(unittest.TestCase):
             (paxidore.SizeError, lambda: trees.verify(root, 3, 2, b"bb", path)),
             (paxidore.HeightError, lambda: trees.verify(root, 8, 2, b"bb", path)),
             (paxidore.InvalidProof, lambda: trees.verify(root, 4, 3, b"bb", path)),
+            (paxidore.IndexBeyondSize, lambda: trees.verify(root, 4, 4, b"bb", path)),
+            (paxidore.IndexBeyondSize, lambda: trees.verify(root, 2, 2, b"bb", b"")),
             (paxidore.InvalidProof, lambda: trees.verify(root, 4, 2, b"bb", path + b"\0")),
             (paxidore.TruncatedProof, lambda: trees.verify(root, 4, 2, b"bb", path[:-1])),
             (paxidore.TruncatedProof, lambda: trees.verify(root, 4, 2, b"bb", b"")),
@@ -209,6 +211,8 @@ class Calls(unittest.TestCase):
             (paxidore.IndexBeyondSize, lambda: trees.multi_path(leaves, [])),
             (paxidore.CountError, lambda: trees.multi_verify(root, 4, [0, 3], [b""], proof)),
             (paxidore.InvalidProof, lambda: trees.multi_verify(root, 4, [3, 0], [b"ccc", b""], proof)),
+            (paxidore.IndexBeyondSize, lambda: trees.multi_verify(root, 4, [0, 4], [b"", b"ccc"], proof)),
+            (paxidore.IndexBeyondSize, lambda: trees.multi_verify(root, 4, [], [], b"")),
             (ValueError, lambda: trees.verify(root[1:], 4, 2, b"bb", path)),
             (OverflowError, lambda: trees.verify(root, 4, 2 + (1 << 64), b"bb", path)),
             (OverflowError, lambda: trees.path(leaves, -1)),
@@ -273,8 +277,8 @@ class Calls(unittest.TestCase):
                     ("index", lambda: log.verify_inclusion(zeros, 1, wrap(0), b"", b"")),
                     ("size", lambda: log.verify_inclusion_digest(zeros, wrap(1), 0, zeros, b"")),
                     ("index", lambda: log.verify_inclusion_digest(zeros, 1, wrap(0), zeros, b"")),
-                    ("old_size", lambda: log.verify_consistency(wrap(1), zeros, 1, zeros, b"")),
-                    ("new_size", lambda: log.verify_consistency(1, zeros, wrap(1), zeros, b"")),
+                    ("old_size", lambda: log.verify_consistency(zeros, wrap(1), zeros, 1, b"")),
+                    ("new_size", lambda: log.verify_consistency(zeros, 1, zeros, wrap(1), b"")),
                 ):
                     with self.assertRaisesRegex(TypeError, "^%s is int, not %s$" % (name, type(wrap(1)).__name__)):
                         call()
@@ -307,27 +311,27 @@ class Calls(unittest.TestCase):
             )
             for old in range(1, size + 1) if size < 34 else DRAWS.sample(range(1, size), 20):
                 before, proof = History.root(digests[:old]), History.proof(old, digests)
-                self.assertTrue(log.verify_consistency(old, before, size, root, proof))
-                self.assertEqual(log.verify_consistency(old, root, size, root, proof), before == root)
+                self.assertTrue(log.verify_consistency(before, old, root, size, proof))
+                self.assertEqual(log.verify_consistency(root, old, root, size, proof), before == root)
                 for other in flips(proof, 8):
-                    self.assertFalse(log.verify_consistency(old, before, size, root, other))
+                    self.assertFalse(log.verify_consistency(before, old, root, size, other))
                 if proof:
                     self.assertIsInstance(
-                        self.refusal(lambda: log.verify_consistency(old, before, size, root, proof[1:])),
+                        self.refusal(lambda: log.verify_consistency(before, old, root, size, proof[1:])),
                         paxidore.TruncatedProof,
                     )
             for old in (0, size + 1):
                 self.assertIsInstance(
-                    self.refusal(lambda: log.verify_consistency(old, root, size, root, b"")), paxidore.SizeError
+                    self.refusal(lambda: log.verify_consistency(root, old, root, size, b"")), paxidore.SizeError
                 )
         for wrap in (Longer, bytearray, memoryview):
             for name, call in (
                 ("root", lambda: log.verify_inclusion(wrap(root), 1, 0, b"", b"")),
                 ("entry", lambda: log.verify_inclusion(root, 1, 0, wrap(b"abc"), b"")),
                 ("path", lambda: log.verify_inclusion(root, 1, 0, b"", wrap(b"abc"))),
-                ("old_root", lambda: log.verify_consistency(1, wrap(root), 1, root, b"")),
-                ("new_root", lambda: log.verify_consistency(1, root, 1, wrap(root), b"")),
-                ("proof", lambda: log.verify_consistency(1, root, 1, root, wrap(b"abc"))),
+                ("old_root", lambda: log.verify_consistency(wrap(root), 1, root, 1, b"")),
+                ("new_root", lambda: log.verify_consistency(root, 1, wrap(root), 1, b"")),
+                ("proof", lambda: log.verify_consistency(root, 1, root, 1, wrap(b"abc"))),
             ):
                 with self.assertRaisesRegex(TypeError, "^%s is bytes, not %s$" % (name, wrap.__name__)):
                     call()
@@ -375,9 +379,12 @@ class Calls(unittest.TestCase):
     def test_a_subinterpreter(self):
         """A second interpreter of the process has a module of its own."""
         try:
-            import _xxsubinterpreters as interpreters
+            import _interpreters as interpreters
         except ImportError:
-            self.skipTest("no subinterpreters under that name")
+            try:
+                import _xxsubinterpreters as interpreters
+            except ImportError:
+                self.skipTest("no subinterpreters under that name")
         script = (
             "from paxidore import Log, Map\n"
             "log, own = Log(), Map()\n"
@@ -385,21 +392,30 @@ class Calls(unittest.TestCase):
             "own[bytes(32)] = bytes(32)\n"
             "assert len(log) == len(own) == 1 and log.check() and own.check() is None\n"
         )
-        other = interpreters.create(isolated=False)
-        try:
-            interpreters.run_string(other, script)
-        finally:
-            interpreters.destroy(other)
+        # one that shares the lock of this one, and where Python has them one with its own
+        kinds = [{"isolated": False}] if sys.version_info < (3, 13) else [{"config": "legacy"}, {"config": "isolated"}]
+        for kind in kinds:
+            with self.subTest(kind):
+                other = interpreters.create(*kind.values()) if "config" in kind else interpreters.create(**kind)
+                try:
+                    self.assertIsNone(interpreters.run_string(other, script))
+                finally:
+                    interpreters.destroy(other)
 
     def test_names_of_arguments(self):
-        """Where the order is another one than the library's for C, arguments are named."""
+        """Arguments have the order of the library for C; where that would be another one, they are named."""
         log = paxidore.Log()
         log.append([b"one", b"two", b"three"])
-        self.assertEqual(log.inclusion(size=2, index=1), log.inclusion(1, 2))
+        self.assertEqual(log.inclusion(size=2, index=1), log.inclusion(1, size=2))
         self.assertEqual(log.consistency(size=3, old_size=2), log.consistency(2, 3))
         own = paxidore.poseidon.Log()
         own.append([1, 2, 3])
-        self.assertEqual(own.inclusion(size=2, index=1), own.inclusion(1, 2))
+        self.assertEqual(own.inclusion(size=2, index=1), own.inclusion(1, size=2))
+        for call in (log.inclusion, own.inclusion):
+            self.assertRaises(TypeError, call, 1, 2)
+        given = dict(proof=log.consistency(2), new_root=log.root(), new_size=3, old_root=log.root(2), old_size=2)
+        self.assertTrue(paxidore.Log.verify_consistency(**given))
+        self.assertRaises(TypeError, paxidore.Log.verify_consistency, 2, log.root(2), 3, log.root(), given["proof"])
 
     def test_digests(self):
         for length in list(range(260)) + [1 << 16]:

@@ -119,7 +119,7 @@ class Logs(unittest.TestCase):
             self.assertEqual((pieces.root(), len(pieces)), (root, size))
             for index, path in enumerate(map(bytes.fromhex, tree["paths"])):
                 self.assertEqual(poseidon.path(elements[:size], index), path)
-                self.assertEqual(log.inclusion(index, size), path)
+                self.assertEqual(log.inclusion(index, size=size), path)
                 self.assertTrue(poseidon.verify(root, size, index, elements[index], path))
                 self.assertFalse(poseidon.verify(root, size, index, (elements[index] + 1) % poseidon.MODULUS, path))
                 self.assertFalse(poseidon.verify((root + 1) % poseidon.MODULUS, size, index, elements[index], path))
@@ -132,7 +132,7 @@ class Logs(unittest.TestCase):
                 log.append(elements[at : at + step])
             self.assertEqual(log.root(), poseidon.root(elements))
             self.assertEqual([log.root(size) for size in (1, 33, 64)], [poseidon.root(elements[:size]) for size in (1, 33, 64)])
-            self.assertEqual(log.inclusion(57, 99), poseidon.path(elements[:99], 57))
+            self.assertEqual(log.inclusion(57, size=99), poseidon.path(elements[:99], 57))
 
     def test_what_an_interrupted_append_left(self):
         log = poseidon.Log()
@@ -143,9 +143,12 @@ class Logs(unittest.TestCase):
 
     def test_refusals(self):
         log = poseidon.Log()
-        for call in (log.root, lambda: log.root(1), lambda: poseidon.root([]), lambda: poseidon.path([], 0), lambda: log.inclusion(0, 1)):
+        of_none = lambda: log.inclusion(0), lambda: log.inclusion(0, size=0), lambda: poseidon.verify(1, 0, 0, 1, b"")  # noqa: E731
+        for call in (log.root, lambda: log.root(1), lambda: poseidon.root([]), lambda: poseidon.path([], 0), *of_none):
             with self.assertRaises(SizeError):
                 call()
+        with self.assertRaises(SizeError):
+            log.inclusion(0, size=1)
         for number in (poseidon.MODULUS, -1, 2**256):
             for call in (log.append, poseidon.root, lambda given: poseidon.path(given, 0)):
                 with self.assertRaises(poseidon.ElementError):

@@ -7,7 +7,7 @@ import sys
 import threading
 import unittest
 
-from paxidore import Field, Transcript, TranscriptError, parameters_bytes, ready_parameters
+from paxidore import CountError, Field, Transcript, TranscriptError, parameters_bytes, ready_parameters
 from paxidore import transcript as calls
 
 
@@ -248,9 +248,13 @@ class Transcripts(unittest.TestCase):
         for rate in range(2, 9):
             for field in (Field.BLS12_381_FR, Field.BN254_FR):
                 Transcript(field, ready_parameters(field, rate)).squeeze(1)
-        for field, rate in ((Field.BN254_FR, 1), (Field.BN254_FR, 9), (Field.GOLDILOCKS, 2)):
-            with self.assertRaises(TranscriptError):
+        for field, rate in ((Field.BN254_FR, 1), (Field.BN254_FR, 9), (Field.BLS12_381_FR, 0)):
+            with self.assertRaises(CountError):
                 ready_parameters(field, rate)
+        for rate in (2, 9):
+            with self.assertRaises(TranscriptError) as raised:
+                ready_parameters(Field.GOLDILOCKS, rate)
+            self.assertEqual(raised.exception.code, -3)
 
     def test_elements_past_the_modulus_are_refused(self):
         _, transcript = drawn(random.Random(4), Field.GOLDILOCKS, 2, 1, 2, 1, 7)

@@ -47,11 +47,11 @@ class Vectors(unittest.TestCase):
             size, root = own["size"], hexed(own["root"])
             self.assertEqual(log.root(size), root)
             for index, path in enumerate(map(hexed, own["inclusion"])):
-                self.assertEqual(log.inclusion(index, size), path)
+                self.assertEqual(log.inclusion(index, size=size), path)
                 self.assertTrue(Log.verify_inclusion(root, size, index, entries[index], path))
             for old, proof in enumerate(map(hexed, own["consistency"]), 1):
                 self.assertEqual(log.consistency(old, size), proof)
-                self.assertTrue(Log.verify_consistency(old, hexed(given["logs"][old]["root"]), size, root, proof))
+                self.assertTrue(Log.verify_consistency(hexed(given["logs"][old]["root"]), old, root, size, proof))
 
     def test_hashes(self):
         given = read("hashes")
@@ -110,7 +110,7 @@ class Vectors(unittest.TestCase):
                 elif case["call"] == "verify_inclusion":
                     Log.verify_inclusion(log_root, case["size"], case["index"], hexed(case["entry"]), data)
                 else:
-                    Log.verify_consistency(case["old_size"], old_root, case["new_size"], log_root, data)
+                    Log.verify_consistency(old_root, case["old_size"], log_root, case["new_size"], data)
             self.assertIs(type(raised.exception), REFUSALS[case["refusal"]])
 
 

@@ -6,7 +6,7 @@ fn main() -> Result<(), paxidore::Refused> {
     (members[0][0], members[1][0], members[2][0]) = (11, 12, 13);
     let mut log = Log::new(&table);
     log.append(&members)?;
-    let path = log.inclusion(1, 3)?;
+    let path = log.inclusion(3, 1)?;
     println!("{}", table.verify(&log.root(3)?, 3, 1, &members[1], &path)?);
     Ok(())
 }

@@ -60,19 +60,19 @@ impl Log {
     ///
     /// Refusals: `Size` of the old size 0 and of one above the new size, `Truncated`, `Invalid`, `Memory`.
     pub fn verify_consistency(
-        old_size: usize,
         old_root: &Digest,
-        new_size: usize,
+        old_size: usize,
         new_root: &Digest,
+        new_size: usize,
         proof: &[u8],
     ) -> Result<bool, Refused> {
         // SAFETY: as in `Trees::verify`.
         verdict(unsafe {
             sys::paxidore_log_verify_consistency(
-                old_size,
                 old_root.as_ptr(),
-                new_size,
+                old_size,
                 new_root.as_ptr(),
+                new_size,
                 proof.as_ptr(),
                 proof.len(),
             )

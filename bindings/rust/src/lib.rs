@@ -65,8 +65,8 @@ pub enum Refused {
     Invalid,
     /// The proof is for a tree of another size.
     Height,
-    /// No tree has this count of leaves: a tree has 2, 4, 8, 16 .. of them; or no log continues one of the old size, or the log
-    /// has fewer entries.
+    /// No tree has this count of leaves: a tree has 2, 4, 8, 16 .. of them, or the memory is not that of such a tree; or no log
+    /// continues one of the old size, or the log has fewer entries.
     Size,
     /// The lengths of the leaves do not sum to that of their bytes. Only `multi_verify_flat` gives it.
     Lengths,
@@ -74,7 +74,7 @@ pub enum Refused {
     Count,
     /// An index is not below the count of leaves, or there is none.
     Index,
-    /// The memory for a tree has another length than that of the tree.
+    /// The room is too short that a caller has for a table or a path.
     Room,
     /// The file is no log's.
     NoLog,
@@ -127,7 +127,7 @@ impl fmt::Display for Refused {
                 f.write_str("there are not as many leaves, or elements, as asked for")
             }
             Refused::Index => f.write_str("there is no index, or no leaf at one"),
-            Refused::Room => f.write_str("the memory for a tree has another length"),
+            Refused::Room => f.write_str("the room is too short"),
             Refused::NoLog => f.write_str("the file is no log"),
             Refused::Short => f.write_str("the file of the log ends early"),
             Refused::DamagedHead => f.write_str("the head of the log's file is damaged"),
@@ -219,7 +219,8 @@ impl Trees {
 
     /// Whether the path shows that the leaf stands at the index of the tree of `size` leaves with this root.
     ///
-    /// `Ok(false)` says that the path was read and leads elsewhere. Refusals: `Size`, `Truncated`, `Invalid`, `Height`, `Memory`.
+    /// `Ok(false)` says that the path was read and leads elsewhere. Refusals: `Size`, `Index`, `Truncated`, `Invalid`, `Height`,
+    /// `Memory`.
     pub fn verify(
         self,
         root: &Digest,
@@ -429,7 +430,7 @@ impl Blake2s {
     pub fn finalize(mut self) -> Digest {
         let mut digest = [0; 32];
         // SAFETY: as in `update`, and `digest` has room for 32 bytes.
-        unsafe { sys::paxidore_blake2s_final(&mut self.state, digest.as_mut_ptr()) };
+        unsafe { sys::paxidore_blake2s_final(digest.as_mut_ptr(), &mut self.state) };
         digest
     }
 }

@@ -19,7 +19,7 @@ use std::time::Duration;
 ///
 /// let mut log = Log::new();
 /// log.append(&["ann", "bob", "cat"])?;
-/// let path = log.inclusion(1, 3)?;
+/// let path = log.inclusion(3, 1)?;
 /// assert!(Log::verify_inclusion(&log.root(3)?, 3, 1, b"bob", &path)?);
 /// # Ok::<(), paxidore::LogError>(())
 /// ```
@@ -212,10 +212,10 @@ impl Log {
     }
 
     /// The bytes of the path of an index in the first `size` entries. Refusals: `Size`, `Index`, `Memory`.
-    pub fn inclusion(&self, index: usize, size: usize) -> Result<Vec<u8>, LogError> {
+    pub fn inclusion(&self, size: usize, index: usize) -> Result<Vec<u8>, LogError> {
         let stored = match &self.kept {
             Kept::Memory(stored) => stored,
-            Kept::File(file) => return file.inclusion(PROOF_BYTES, index, size),
+            Kept::File(file) => return file.inclusion(PROOF_BYTES, size, index),
         };
         // SAFETY: as in `Trees::path`.
         let path = written(PROOF_BYTES, |path, room, count| unsafe {

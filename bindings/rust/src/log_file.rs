@@ -310,8 +310,8 @@ impl LogFile {
     pub(crate) fn inclusion(
         &self,
         room: usize,
-        index: usize,
         size: usize,
+        index: usize,
     ) -> Result<Vec<u8>, LogError> {
         let (mut path, mut count) = (vec![0; room], 0);
         // SAFETY: as in `made`.

@@ -130,8 +130,8 @@ impl<const N: usize> Table<N> {
 
     /// Returns whether the bytes of a path show that the element stands at the index among `size` elements with this root.
     ///
-    /// `Ok(false)` says that the path was read and leads elsewhere. Refusals: `Index`, `Truncated`, `Invalid` where the path has more bytes,
-    /// and where the element or a digest of the path is not below the modulus.
+    /// `Ok(false)` says that the path was read and leads elsewhere. Refusals: `Size` for no element, `Index`, `Truncated`, `Invalid` where
+    /// the path has more bytes, and where the element or a digest of the path is not below the modulus.
     pub fn verify(
         &self,
         root: &Digest,
@@ -171,7 +171,7 @@ impl<const N: usize> Table<N> {
 /// let table = Table::<{ table_bytes(2) }>::new(2)?;
 /// let mut log = Log::new(&table);
 /// log.append(&[[1; 32], [2; 32], [3; 32]])?;
-/// let path = log.inclusion(1, 3)?;
+/// let path = log.inclusion(3, 1)?;
 /// assert!(table.verify(&log.root(3)?, 3, 1, &[2; 32], &path)?);
 /// # Ok::<(), paxidore::Refused>(())
 /// ```
@@ -250,8 +250,8 @@ impl<'a, const N: usize> Log<'a, N> {
         Ok(root)
     }
 
-    /// Returns the bytes of the path of an index in the first `size` elements. Refusals: `Count`, `Size`, `Index`, `Memory`.
-    pub fn inclusion(&self, index: usize, size: usize) -> Result<std::vec::Vec<u8>, Refused> {
+    /// Returns the bytes of the path of an index in the first `size` elements. Refusals: those of [`root`](Log::root), `Index`.
+    pub fn inclusion(&self, size: usize, index: usize) -> Result<std::vec::Vec<u8>, Refused> {
         // SAFETY: as in `Table::root`.
         crate::written(63 * 32, |path, room, count| unsafe {
             sys::paxidore_poseidon_log_inclusion(

@@ -109,7 +109,7 @@ extern "C" {
         indexes: *const usize,
         indexes_count: usize,
     ) -> i32;
-    pub fn paxidore_tree_check(tree: *const u8, tree_len: usize, hashing: u32) -> i32;
+    pub fn paxidore_tree_check(hashing: u32, tree: *const u8, tree_len: usize) -> i32;
 }
 
 /// The state of a BLAKE2s under way. Its members are the library's own.
@@ -127,7 +127,7 @@ extern "C" {
     pub fn paxidore_blake2s(digest: *mut u8, input: *const u8, input_len: usize);
     pub fn paxidore_blake2s_init(state: *mut Blake2sState);
     pub fn paxidore_blake2s_update(state: *mut Blake2sState, input: *const u8, input_len: usize);
-    pub fn paxidore_blake2s_final(state: *mut Blake2sState, digest: *mut u8);
+    pub fn paxidore_blake2s_final(digest: *mut u8, state: *mut Blake2sState);
     pub fn paxidore_blake2s_commit(
         commitment: *mut u8,
         value: *const u8,
@@ -163,10 +163,10 @@ extern "C" {
         path_len: usize,
     ) -> i32;
     pub fn paxidore_log_verify_consistency(
-        old_size: usize,
         old_root: *const u8,
-        new_size: usize,
+        old_size: usize,
         new_root: *const u8,
+        new_size: usize,
         proof: *const u8,
         proof_len: usize,
     ) -> i32;

@@ -35,7 +35,7 @@ impl Field {
 /// Returns the bytes of ready parameters over `Bls12_381Fr` or `Bn254Fr`, for a rate from 2 to 8 and a capacity of one: those that
 /// arkworks and circomlib have.
 ///
-/// Refusals: `Invalid` where there are none, `Memory`.
+/// Refusals: `Invalid` for another field, `Count` for another rate, `Memory`.
 pub fn ready_parameters(field: Field, rate: usize) -> Result<Vec<u8>, Refused> {
     // the longest have 71 rows of constants and 9 of the matrix
     let mut parameters = vec![0; 64 + 80 * (8 + 9 * 32)];

@@ -79,7 +79,7 @@ impl Tree<Vec<u8>> {
 }
 
 impl<M: AsRef<[u8]> + AsMut<[u8]>> Tree<M> {
-    /// The tree above the leaves, in memory of [`Tree::bytes`]. Refusals: `Size`, and `Room` where the memory has another length.
+    /// The tree above the leaves, in memory of [`Tree::bytes`]. Refusals: `Size`, also where the memory has another length.
     pub fn build_in<L: AsRef<[u8]>>(
         trees: Trees,
         mut memory: M,
@@ -87,7 +87,7 @@ impl<M: AsRef<[u8]> + AsMut<[u8]>> Tree<M> {
     ) -> Result<Tree<M>, Refused> {
         let Flat { bytes, lengths } = Flat::of(leaves);
         let place = memory.as_mut();
-        let count = digests(place).map_err(|_| Refused::Room)?;
+        let count = digests(place)?;
         // SAFETY: each pointer with its length is that of a borrowed slice, of which `place` alone is written, and the call asks for
         // nothing else.
         done(unsafe {
@@ -215,7 +215,7 @@ impl<M: AsRef<[u8]>> Tree<M> {
         let count = digests(place)?;
         // SAFETY: as in `build_in`.
         crate::verdict(unsafe {
-            sys::paxidore_tree_check(place.as_ptr(), count, self.trees.hashing)
+            sys::paxidore_tree_check(self.trees.hashing, place.as_ptr(), count)
         })
     }
 

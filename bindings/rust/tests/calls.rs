@@ -60,6 +60,10 @@ fn paths() -> Result<(), Refused> {
                 Err(Refused::Invalid)
             );
             assert_eq!(
+                trees.verify(&root, 8, index + 8, leaf, &path),
+                Err(Refused::Index)
+            );
+            assert_eq!(
                 trees.verify(&root, 16, index, leaf, &path),
                 Err(Refused::Height)
             );
@@ -103,6 +107,14 @@ fn multi_paths() -> Result<(), Refused> {
         }
         assert_eq!(trees.multi_path(&ENTRIES, &[]), Err(Refused::Index));
         assert_eq!(trees.multi_path(&ENTRIES, &[3, 8]), Err(Refused::Index));
+        assert_eq!(
+            trees.multi_verify(&root, 8, &[3, 8], &ENTRIES[..2], &[]),
+            Err(Refused::Index)
+        );
+        assert_eq!(
+            trees.multi_verify::<&[u8]>(&root, 8, &[], &[], &[]),
+            Err(Refused::Index)
+        );
     }
     Ok(())
 }
@@ -139,14 +151,14 @@ fn logs() -> Result<(), Refused> {
         Err(Refused::Truncated)
     );
     let proof = unhex(&PROOF_7.concat());
-    assert!(Log::verify_consistency(3, &three, 7, &seven, &proof)?);
-    assert!(!Log::verify_consistency(3, &seven, 7, &seven, &proof)?);
+    assert!(Log::verify_consistency(&three, 3, &seven, 7, &proof)?);
+    assert!(!Log::verify_consistency(&seven, 3, &seven, 7, &proof)?);
     assert_eq!(
-        Log::verify_consistency(0, &three, 7, &seven, &proof),
+        Log::verify_consistency(&three, 0, &seven, 7, &proof),
         Err(Refused::Size)
     );
     assert_eq!(
-        Log::verify_consistency(4, &three, 7, &seven, &proof),
+        Log::verify_consistency(&three, 4, &seven, 7, &proof),
         Err(Refused::Invalid)
     );
     Ok(())

@@ -74,9 +74,9 @@ fn logs() {
     let by_digest = Log::verify_inclusion_digest(&old, 3, 1, &bob, &path);
     assert_eq!(by_digest, Ok(true));
     let proof: [u8; 96] = joined(&[&cat, &dan, &ab]);
-    let after = |old: &Digest| Log::verify_consistency(3, old, 4, &new, &proof);
+    let after = |old: &Digest| Log::verify_consistency(old, 3, &new, 4, &proof);
     assert_eq!((after(&old), after(&new)), (Ok(true), Ok(false)));
-    let short = Log::verify_consistency(3, &old, 4, &new, &proof[1..]);
+    let short = Log::verify_consistency(&old, 3, &new, 4, &proof[1..]);
     assert_eq!(short, Err(Refused::Truncated));
 }
 

@@ -119,7 +119,7 @@ fn each_size() -> Result<(), LogError> {
         let (leaves, root) = (&digests[..size], log.root(size)?);
         assert_eq!(root, mth(leaves));
         for index in 0..size {
-            let shown = log.inclusion(index, size)?;
+            let shown = log.inclusion(size, index)?;
             assert_eq!(shown, path(index, leaves).concat());
             assert!(Log::verify_inclusion(
                 &root,
@@ -139,10 +139,10 @@ fn each_size() -> Result<(), LogError> {
             assert_eq!(shown, subproof(index + 1, leaves, true).concat());
             let old = mth(&digests[..index + 1]);
             assert!(Log::verify_consistency(
-                index + 1,
                 &old,
-                size,
+                index + 1,
                 &root,
+                size,
                 &shown
             )?);
         }
@@ -163,7 +163,7 @@ fn refusals() -> Result<(), LogError> {
     assert_eq!(refusal(log.root(4)), Refused::Size);
     assert_eq!(refusal(log.root(usize::MAX)), Refused::Size);
     assert_eq!(refusal(log.inclusion(3, 3)), Refused::Index);
-    assert_eq!(refusal(log.inclusion(0, 4)), Refused::Size);
+    assert_eq!(refusal(log.inclusion(4, 0)), Refused::Size);
     assert_eq!(refusal(log.consistency(0, 3)), Refused::Size);
     assert_eq!(refusal(log.consistency(3, 2)), Refused::Size);
     assert!(log.consistency(3, 3)?.is_empty());
@@ -200,7 +200,7 @@ fn a_file_is_read_again() -> Result<(), LogError> {
         log.append(&entries[size..size + 1])?;
     }
     let log = Log::open(room.log())?;
-    assert_eq!(log.inclusion(7, 25)?, path(7, &digests).concat());
+    assert_eq!(log.inclusion(25, 7)?, path(7, &digests).concat());
     assert_eq!(
         Log::open(room.log()).unwrap_err().kind(),
         ErrorKind::WouldBlock
@@ -286,7 +286,7 @@ fn read_only() -> Result<(), LogError> {
     keeper.append(&entries)?;
     assert_eq!((reader.len(), reader.refresh()?), (0, 9));
     assert_eq!(reader.root(9)?, keeper.root(9)?);
-    assert_eq!(reader.inclusion(7, 9)?, keeper.inclusion(7, 9)?);
+    assert_eq!(reader.inclusion(9, 7)?, keeper.inclusion(9, 7)?);
     assert_eq!(reader.consistency(7, 9)?, keeper.consistency(7, 9)?);
     assert!(reader.check()?);
     assert!(matches!(reader.append(&["x"]), Err(LogError::Io(_))));
@@ -297,7 +297,7 @@ fn read_only() -> Result<(), LogError> {
         .open(room.log())?
         .set_len(whole.len() as u64 - 1)?;
     assert_eq!(refusal(reader.root(9)), Refused::Short);
-    assert_eq!(refusal(keeper.inclusion(1, 9)), Refused::Short);
+    assert_eq!(refusal(keeper.inclusion(9, 1)), Refused::Short);
     assert_eq!(refusal(keeper.append(&["x"])), Refused::Short);
     Ok(())
 }

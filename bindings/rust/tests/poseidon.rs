@@ -135,7 +135,7 @@ fn trees_are_those_of_a_model() -> Result<(), Refused> {
             assert_eq!(table.root(&given)?, root);
             assert_eq!(log.root(size)?, root);
             assert_eq!(room[..count].concat(), path);
-            assert_eq!(log.inclusion(index, size)?, path);
+            assert_eq!(log.inclusion(size, index)?, path);
             assert!(table.verify(&root, size, index, &given[index], &path)?);
             assert!(!table.verify(&root, size, index, &[7; 32].map(|byte| byte / 7), &path)?);
         }
@@ -165,6 +165,15 @@ fn trees_refuse() -> Result<(), Refused> {
     assert_eq!(
         (log.len(), log.is_empty(), log.root(0)),
         (0, true, Err(Refused::Size))
+    );
+    assert_eq!(log.inclusion(0, 0), Err(Refused::Size));
+    assert_eq!(
+        two.verify(&given[0], 0, 0, &given[0], &[]),
+        Err(Refused::Size)
+    );
+    assert_eq!(
+        two.verify(&given[0], 3, 3, &given[0], &[]),
+        Err(Refused::Index)
     );
     assert_eq!(log.append(&[]), Ok(0));
     assert_eq!(Log::new(&three).append(&given), Err(Refused::Count));

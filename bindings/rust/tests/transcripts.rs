@@ -46,6 +46,7 @@ fn ready_parameters_are_arkworks() -> Result<(), Refused> {
     assert_eq!(out[..4], [0x6c, 0x78, 0x7b, 0x3f]);
     assert_eq!(out[28..], [0x56, 0xcf, 0x69, 0x59]);
     assert_eq!(ready_parameters(Field::BabyBear, 2), Err(Refused::Invalid));
+    assert_eq!(ready_parameters(Field::Bn254Fr, 9), Err(Refused::Count));
     Ok(())
 }
 

@@ -144,7 +144,7 @@ fn refusals() -> Result<(), Refused> {
             assert_eq!(refused, Err(Refused::Size));
             let mut memory = vec![0xaa; length];
             let refused = Tree::build_in(trees, &mut memory, &ENTRIES).map(|_| ());
-            assert_eq!(refused, Err(Refused::Room));
+            assert_eq!(refused, Err(Refused::Size));
             assert_eq!(memory, vec![0xaa; length]);
         }
         let mut tree = Tree::build(trees, &ENTRIES)?;

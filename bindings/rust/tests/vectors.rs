@@ -50,7 +50,7 @@ fn lines() {
             ["consistency", old_size, old_root, size, root, proof] => {
                 let (old_size, size) = (number(old_size), number(size));
                 let (old_root, root) = (digest(old_root), digest(root));
-                Log::verify_consistency(old_size, &old_root, size, &root, &bytes(proof)) == Ok(true)
+                Log::verify_consistency(&old_root, old_size, &root, size, &bytes(proof)) == Ok(true)
             }
             ["sha256", input, output] => sha256(&bytes(input)) == digest(output),
             ["poseidon", inputs, output] => {

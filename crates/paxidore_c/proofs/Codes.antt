@@ -1,5 +1,5 @@
 -- What codes tell of answers.
-use Rattle.std.proofs.Common.{◌≡◌, ◌⊎◌, ℤ, pos, w32, to_z, of_z, Bool, true, false, List, [], ◌∷◌, length, map, ℕ, Result, Ok, Err, IfOk, refl, sym, subst, ap, ◌∙◌, inl, inr}
+use Rattle.std.proofs.Common.{◌≡◌, ◌⊎◌, ℤ, pos, w32, to_z, of_z, Bool, true, false, List, [], ◌∷◌, length, map, nat_lt, ℕ, Result, Ok, Err, IfOk, refl, sym, subst, ap, ◌∙◌, inl, inr}
 use Rattle.std.proofs.lemmas.List.{map-id}
 use Rattle.std.proofs.lemmas.Simd.{map-map}
 use Rattle.ark_base.specs.Outcome.{Outcome, Answers}
@@ -9,7 +9,7 @@ use Rattle.ark_paths.specs.Pair.{Digest, Hashes}
 use Rattle.ark_paths.specs.Path.{Way}
 use Rattle.ark_paths.specs.Received.{ShowsLeaf, ShowsLeaves, StandInTurn, received_multi_verdict, received_verdict}
 use Rattle.ark_paths.specs.Index.{is_tree_size}
-use Rattle.paxidore_c.specs.Answer.{GivesCode, all_shown, done_code, leaves_for, refusal_code, refused_of, refusing, results_of, shown, verdict_code}
+use Rattle.paxidore_c.specs.Answer.{GivesCode, all_shown, are_indexes, done_code, leaves_for, refusal_code, refused_of, refusing, results_of, shown, verdict_code}
 use Rattle.paxidore_c.proofs.Answering.{refusal-no, zero-says}
 use Rattle.paxidore_c.specs.Hashing.{Hashing, hashes_by, hashes_of, read_path, read_multi_path}
 use Rattle.paxidore_c.specs.declared.refused.Refused.{Refused}
@@ -66,19 +66,19 @@ module _ (h : Hashing) {A : Type 0} (bytes_of : A → List ℕ) (hashes : Hashes
       let Q : List ℕ → Type 0 = λ l. ShowsLeaf (hashes_of h) root size index l (read_path path) in
       subst Q same (subst P are (zero-says verdict shows code is zero))
 
-  -- What a path gives, where a tree has the size.
+  -- What a path gives, where a tree has the size and the index is below it.
   pub shown-gives : (index : ℕ) (path : List ℕ) (held : A) (leaf : List ℕ) → bytes_of held ≡ leaf
-      → is_tree_size size ≡ true → (result : Outcome Bool)
+      → is_tree_size size ≡ true → nat_lt index size ≡ true → (result : Outcome Bool)
       → Answers (received_verdict hashes root size index held (read_path path)) result
       → (code : ℤ) → code ≡ verdict_code (refusing result) → GivesCode
       (verdict_code (shown h root size index leaf path))
       (to_z w32 (of_z w32 code))
-  shown-gives index path held leaf same sized result answers code is =
+  shown-gives index path held leaf same sized inside result answers code is =
       let P : Hashes A → Type 0 = λ hs. Answers (received_verdict hs root size index held (read_path path)) result in
       let Q : List ℕ → Type 0 =
       λ l. GivesCode (verdict_code (shown h root size index l path)) (to_z w32 (of_z w32 code)) in
       let known : shown h root size index (bytes_of held) path ≡ refusing (received_verdict (hashes_by bytes_of h) root
-      size index held (read_path path)) = rw sized refl in
+      size index held (read_path path)) = rw (sized, inside) refl in
       subst Q same (rw (known, is, verdict-fits (refusing result)) (answers-give (received_verdict
       (hashes_by bytes_of h) root size index held (read_path path)) result (subst P are answers)))
 
@@ -120,19 +120,23 @@ module _ (h : Hashing) {A : Type 0} (bytes_of : A → List ℕ) (hashes : Hashes
         rw are-held (shows-held indexes held (read_multi_path proof)
         (subst P are (zero-says result shows code is zero)))
 
-    pub all-shown-gives : (result : Outcome Bool) → Answers (received_multi_verdict hashes root size indexes held
-        (read_multi_path proof)) result
+    pub all-shown-gives : are_indexes size indexes ≡ true → (result : Outcome Bool)
+        → Answers (received_multi_verdict hashes root size indexes held (read_multi_path proof)) result
         → (code : ℤ) → code ≡ verdict_code (refusing result) → GivesCode
         (verdict_code (all_shown h root size indexes bytes
         lengths proof)) (to_z w32 (of_z w32 code))
-    all-shown-gives result answers code is =
+    all-shown-gives inside result answers code is =
         let P : Hashes A → Type 0 =
         λ hs. Answers (received_multi_verdict hs root size indexes held (read_multi_path proof)) result in
         let known : all_shown h root size indexes bytes lengths proof ≡ refusing (received_multi_verdict
-        (hashes_by bytes_of h) root size indexes held (read_multi_path proof)) = rw are-held
+        (hashes_by bytes_of h) root size indexes held (read_multi_path proof)) = rw (are-held, inside)
         (ap refusing (verdict-held indexes held (read_multi_path proof))) in
         rw (known, is, verdict-fits (refusing result)) (answers-give (received_multi_verdict (hashes_by bytes_of h) root
         size indexes held (read_multi_path proof)) result (subst P are answers))
+
+    pub no-index-gives : are_indexes size indexes ≡ false → (code : ℤ) → code ≡ refusal_code Index
+        → GivesCode (verdict_code (all_shown h root size indexes bytes lengths proof)) (to_z w32 (of_z w32 code))
+    no-index-gives none code is = inl (rw (is, are-held, none) refl)
 
 -- leaves that are refused
 pub none-shown-gives : (h : Hashing) (root : Digest) (size : ℕ) (indexes bytes lengths proof : List ℕ)

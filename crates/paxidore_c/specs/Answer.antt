@@ -90,19 +90,24 @@ in_hashing number outcome = do
 
 -- whether the bytes of a path show a leaf at an index of a tree with this root and size
 abbrev pub shown : Hashing → Digest → ℕ → ℕ → List ℕ → List ℕ → Result Bool Refused
-shown h root size index leaf path = only_if (is_tree_size size) Size
-    (refusing (received_verdict (hashes_of h) root size index leaf (read_path path)))
+shown h root size index leaf path = only_if (is_tree_size size) Size (only_if (nat_lt index size) Index
+    (refusing (received_verdict (hashes_of h) root size index leaf (read_path path))))
 
 -- the leaves for as many indexes of such a tree
 abbrev pub leaves_for : ℕ → ℕ → List ℕ → List ℕ → Result (List (List ℕ)) Refused
 leaves_for size count leaves lengths = only_if (is_tree_size size) Size
     (only_if (length lengths == count) Count (leaves_in (parts_by leaves lengths)))
 
+-- whether all indexes are of leaves, and there is one
+abbrev pub are_indexes : ℕ → List ℕ → Bool
+are_indexes size indexes = nat_lt 0 (length indexes) && list_all (λ i. nat_lt i size) indexes
+
 -- whether the bytes of a strict multi-proof show leaves, one for each of some indexes
 abbrev pub all_shown : Hashing → Digest → ℕ → List ℕ → List ℕ → List ℕ → List ℕ → Result Bool Refused
 all_shown h root size indexes leaves lengths proof = do
   xs ← leaves_for size (length indexes) leaves lengths
-  refusing (received_multi_verdict (hashes_of h) root size indexes xs (read_multi_path proof))
+  only_if (are_indexes size indexes) Index
+      (refusing (received_multi_verdict (hashes_of h) root size indexes xs (read_multi_path proof)))
 
 -- ---- what is made of leaves
 
@@ -122,10 +127,6 @@ abbrev pub path_of_leaves : Hashing → List ℕ → List ℕ → ℕ → Result
 path_of_leaves h leaves lengths index = do
   xs ← tree_leaves_in leaves lengths
   only_if (nat_lt index (length xs)) Index (Ok (bytes_of_path (path_in (tree_over h xs) index)))
-
--- whether all indexes are of leaves, and there is one
-abbrev pub are_indexes : ℕ → List ℕ → Bool
-are_indexes size indexes = nat_lt 0 (length indexes) && list_all (λ i. nat_lt i size) indexes
 
 -- the bytes of the multi-proof of some indexes, of which there is one at least
 abbrev pub multi_path_of_leaves : Hashing → List ℕ → List ℕ → List ℕ → Result (List ℕ) Refused

@@ -10,7 +10,7 @@ use Rattle.paxidore_c.specs.Answer.{are_indexes, leaves_in, only_if}
 use Rattle.paxidore_c.specs.Cut.{parts_by}
 use Rattle.paxidore_c.specs.Hashing.{Hashing, bytes_of_multi_path, bytes_of_path, hashes_of}
 use Rattle.paxidore_c.specs.declared.refused.Refused.{Refused}
-use Rattle.paxidore_c.specs.declared.refused.Refused.TheVariants.{Count, Index, Room, Size}
+use Rattle.paxidore_c.specs.declared.refused.Refused.TheVariants.{Count, Index, Size}
 
 -- the digest that stands first, where a tree has as many digests as memory
 abbrev pub kept_root : List Digest → Result Digest Refused
@@ -50,7 +50,7 @@ multi_path_of_digests h leaves indexes = only_if (are_indexes (length leaves) in
 -- the leaves of a tree that has so many digests
 abbrev pub leaves_to_keep : ℕ → List ℕ → List ℕ → Result (List (List ℕ)) Refused
 leaves_to_keep count leaves lengths = only_if (is_tree_size (length lengths)) Size
-    (only_if (count + 1 == 2 * length lengths) Room (leaves_in (parts_by leaves lengths)))
+    (only_if (count + 1 == 2 * length lengths) Size (leaves_in (parts_by leaves lengths)))
 
 -- the leaves for as many indexes of a tree that has so many digests
 abbrev pub leaves_to_change : ℕ → List ℕ → List ℕ → List ℕ → Result (List (List ℕ)) Refused

@@ -10,7 +10,7 @@ use Rattle.merkle_log.specs.Edge.{all_of}
 use Rattle.merkle_log.specs.Log.{inclusion_path, merkle_tree_hash}
 use Rattle.merkle_log.specs.Received.{inclusion_length, received_inclusion}
 use Rattle.paxidore_c.specs.Answer.{only_if, refusing}
-use Rattle.paxidore_c.specs.KeptLog.{bytes_of_digests, if_inside, if_kept, more_count, takes}
+use Rattle.paxidore_c.specs.KeptLog.{bytes_of_digests, if_kept, more_count, takes}
 use Rattle.paxidore_c.specs.LogProofs.{proof_digests}
 use Rattle.paxidore_c.specs.declared.refused.Refused.{Refused}
 use Rattle.paxidore_c.specs.declared.refused.Refused.TheVariants.{Count, Index, Invalid, Room, Size}
@@ -51,11 +51,11 @@ abbrev pub elements_path : ℕ → Parameters → List Digest → ℕ → Result
 elements_path inputs c elements index = if_two inputs (elements_given elements >>= λ all.
     only_if (nat_lt index (length all)) Index (path_of_elements c index all))
 
--- whether the bytes of a path show an element at an index of a log with this root and size
+-- whether the bytes of a path show an element at an index of a log with this root and size, of which no log has 0
 abbrev pub element_verdict : Parameters → Digest → ℕ → ℕ → Digest → List ℕ → Result Bool Refused
-element_verdict c root size index element path = only_if (nat_lt index size) Index
+element_verdict c root size index element path = only_if (nat_lt 0 size) Size (only_if (nat_lt index size) Index
     (refusing (received_inclusion (element_hashes (node_outcome c)) root size index element
-    (proof_digests (inclusion_length size index) path)))
+    (proof_digests (inclusion_length size index) path))))
 
 -- the same by a table of so many inputs
 abbrev pub element_shown : ℕ → Parameters → Digest → ℕ → ℕ → Digest → List ℕ → Result Bool Refused
@@ -67,9 +67,10 @@ element_shown inputs c root size index element path = if_two inputs (element_ver
 abbrev pub kept_root_given : ℕ → ℕ → List Digest → Result Digest Refused → Result Digest Refused
 kept_root_given inputs size kept given = if_two inputs (if_kept size kept (only_if (nat_lt 0 size) Size given))
 
--- what is given as the bytes of the path of an index in a kept log
+-- what is given as the bytes of the path of an index in a kept log that has an element
 abbrev pub kept_path_given : ℕ → ℕ → ℕ → List Digest → Result (List ℕ) Refused → Result (List ℕ) Refused
-kept_path_given inputs size index kept given = if_two inputs (if_inside size index kept given)
+kept_path_given inputs size index kept given =
+    if_two inputs (if_kept size kept (only_if (nat_lt 0 size) Size (only_if (nat_lt index size) Index given)))
 
 -- what is given for elements that are appended to a kept log, where a buffer has room for the digests
 abbrev pub appended_by : ℕ → List Digest → ℕ → List Digest → Result (List Digest) Refused → Result (List Digest) Refused

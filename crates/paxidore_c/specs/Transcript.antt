@@ -221,9 +221,13 @@ AreReadyOver name rate c =
     ((name ≡ 3) × AreReady rate (bls12_381_fr_rounds rate) (bls12_381_fr_alpha rate) c)
     ⊎ ((name ≡ 4) × AreReady rate (bn254_fr_rounds rate) 5 c)
 
+-- There are ready parameters over the field of this number, of some rates.
+abbrev pub IsReadyField : ℕ → Type 0
+IsReadyField name = (name ≡ 3) ⊎ (name ≡ 4)
+
 -- There are ready parameters of a rate over the field of this number.
 abbrev pub HasReady : ℕ → ℕ → Type 0
-HasReady name rate = ((name ≡ 3) ⊎ (name ≡ 4)) × (2 ≤ rate) × (rate ≤ 8)
+HasReady name rate = IsReadyField name × (2 ≤ rate) × (rate ≤ 8)
 
 -- the bytes are those of ready parameters
 abbrev pub SpellReady : ℕ → ℕ → List ℕ → Type 0

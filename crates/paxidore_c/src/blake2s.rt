@@ -36,7 +36,7 @@ pub extern "C" fn paxidore_blake2s_update(state: &mut Blake2s256, input: &[u8])
 
 /// Writes the digest of the text to `digest`; the hasher is then that of the text of no bytes.
 #[unsafe(no_mangle)]
-pub extern "C" fn paxidore_blake2s_final(state: &mut Blake2s256, digest: &mut [u8; 32])
+pub extern "C" fn paxidore_blake2s_final(digest: &mut [u8; 32], state: &mut Blake2s256)
     ensures digest { (text : List ℕ) → HoldsText state.old text → digest.new ≡ blake2s text }
     ensures empty { HoldsText state.new [] }
 {

@@ -44,7 +44,7 @@ fn tree_build<H: ArrayHash>(tree: &mut [[u8; 32]], leaves: &[u8], lengths: &[usi
         return Refused::Size.code();
     }
     if tree.len() + 1 != 2 * lengths.len() {
-        return Refused::Room.code();
+        return Refused::Size.code();
     }
     if !are_parts(leaves, lengths) {
         return Refused::Lengths.code();
@@ -124,8 +124,8 @@ fn kept_path(path: &mut [u8], path_len: &mut usize, tree: &[[u8; 32]], index: us
 
 /// Writes the tree above the leaves to memory of as many digests as it has. An error leaves the memory as before.
 ///
-/// Answers: 0; else the first of `E_INVALID` for a number that names no hashing, `E_SIZE`, `E_ROOM` where the tree has more or
-/// fewer digests, `E_LENGTHS`.
+/// Answers: 0; else the first of `E_INVALID` for a number that names no hashing, `E_SIZE`, also where the tree has more or fewer
+/// digests than the memory, `E_LENGTHS`.
 #[unsafe(no_mangle)]
 pub extern "C" fn paxidore_tree_build(
     tree: &mut [[u8; 32]],
@@ -238,7 +238,7 @@ pub extern "C" fn paxidore_tree_path(
 /// Answers: 0 for a yes, 1 for a no; else the first of `E_INVALID` for a number that names no hashing and `E_SIZE`, where no
 /// tree has so many digests.
 #[unsafe(no_mangle)]
-pub extern "C" fn paxidore_tree_check(tree: &[[u8; 32]], hashing: u32) -> i32
+pub extern "C" fn paxidore_tree_check(hashing: u32, tree: &[[u8; 32]]) -> i32
     ensures answer { (holds : Bool) × (result ≡ verdict_code (in_hashing hashing (λ h.
         kept_check (length tree.now) holds))) }
     ensures holds { IfOk (hashing_of hashing) (λ h.

@@ -51,10 +51,10 @@ pub extern "C" fn paxidore_log_verify_inclusion(
 #[unsafe(no_mangle)]
 pub extern "C" fn paxidore_log_verify_consistency(
     alloc: Global,
-    old_size: usize,
     old_root: &[u8; 32],
-    new_size: usize,
+    old_size: usize,
     new_root: &[u8; 32],
+    new_size: usize,
     proof: &[u8],
 ) -> i32
     ensures answer { GivesCode (verdict_code (continuing_shown Size refusing old_size

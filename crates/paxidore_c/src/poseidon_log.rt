@@ -196,6 +196,9 @@ fn verify_by(
         → result ≡ pos 0 → ShowsLogLeaf (element_hashes (node_outcome c)) root.now size index
         element.now (proof_digests (inclusion_length size index) path.now) }
 {
+    if size == 0 {
+        return Refused::Size.code();
+    }
     if index >= size {
         return Refused::Index.code();
     }
@@ -206,8 +209,8 @@ fn verify_by(
 
 /// Returns whether the bytes of a path show an element at an index of a log with this root and size.
 ///
-/// Answers: 0 for a yes, 1 for another root; else the first of `E_COUNT` for a table of another count of inputs, `E_INDEX`,
-/// `E_TRUNCATED`, `E_INVALID` for bytes of more digests than such a path has, and for an element or a digest that is not below
+/// Answers: 0 for a yes, 1 for another root; else the first of `E_COUNT` for a table of another count of inputs, `E_SIZE` for no
+/// elements, `E_INDEX`, `E_TRUNCATED`, `E_INVALID` for bytes of more digests than such a path has, and for an element or a digest that is not below
 /// the modulus; `E_MEMORY` in place of any. A table that was cut or damaged is refused as by `paxidore_poseidon_root`.
 #[unsafe(no_mangle)]
 pub extern "C" fn paxidore_poseidon_verify(

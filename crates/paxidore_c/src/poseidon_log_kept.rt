@@ -121,6 +121,9 @@ fn kept_path_of(
         Some(kept) => kept,
         None => return Err(Refused::Size),
     };
+    if size == 0 {
+        return Err(Refused::Size);
+    }
     if index >= size {
         return Err(Refused::Index);
     }
@@ -133,8 +136,8 @@ fn kept_path_of(
 
 /// Writes the bytes of the path of an index of the first `size` elements to the front of `path`, and their count.
 ///
-/// Answers: 0; else the first of `E_COUNT` for a table of another count of inputs, `E_SIZE`, `E_INDEX`, `E_ROOM`, which alone
-/// writes the count that is needed; `E_MEMORY` in place of any. Where other digests are kept, `E_INVALID` too, as in
+/// Answers: 0; else the first of `E_COUNT` for a table of another count of inputs, `E_SIZE`, also for no elements, `E_INDEX`,
+/// `E_ROOM`, which alone writes the count that is needed; `E_MEMORY` in place of any. Where other digests are kept, `E_INVALID` too, as in
 /// `paxidore_poseidon_log_root`. Any other refusal leaves both buffers as before.
 #[unsafe(no_mangle)]
 pub extern "C" fn paxidore_poseidon_log_inclusion(

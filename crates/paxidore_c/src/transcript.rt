@@ -1,12 +1,12 @@
 //! Transcripts: Poseidon's duplex sponge over a field that a number names, by the bytes of its parameters and of its state,
 //! in memory of the caller's.
 
-ghost use Rattle.std.specs.Prelude.{◌≡◌, ◌≢◌, ◌⊎◌, ◌++◌, ℕ, ◌+◌, List, length, drop, pos, Result, Ok, Err, IfErr, IfOk, IfSome, IsSome};
+ghost use Rattle.std.specs.Prelude.{◌≡◌, ◌≢◌, ◌⊎◌, ◌≤◌, ◌++◌, ℕ, ◌+◌, List, length, drop, pos, Result, Ok, Err, IfErr, IfOk, IfSome, IsSome};
 ghost use Rattle.ark_sponge.specs.ConfigBytes.{parameters_spelling};
 ghost use Rattle.paxidore_c.specs.Answer.{GivesCode, CallGivesBy, Hands, refusal_code};
 ghost use Rattle.paxidore_c.specs.declared.refused.Refused.{Refused as Why};
-ghost use Rattle.paxidore_c.specs.declared.refused.Refused.TheVariants.{Invalid, Memory, Room};
-ghost use Rattle.paxidore_c.specs.Transcript.{HasReady, Replaces, ServeAs, SpellReady, begun, bytes_given, element_bytes_squeezed, in_field, left_by, field_power, prepared_bytes, with_bytes, with_elements};
+ghost use Rattle.paxidore_c.specs.declared.refused.Refused.TheVariants.{Count, Invalid, Memory, Room};
+ghost use Rattle.paxidore_c.specs.Transcript.{HasReady, IsReadyField, Replaces, ServeAs, SpellReady, begun, bytes_given, element_bytes_squeezed, in_field, left_by, field_power, prepared_bytes, with_bytes, with_elements};
 
 mod forms;
 mod items;
@@ -253,20 +253,22 @@ fn spelled<F: Field>(alloc: Global, found: Option<PoseidonConfig<F>>) -> Result<
     ensures spelled { IfOk result (λ bytes. IfSome found (λ c.
         bytes.items ≡ parameters_spelling F.MODULUS_BIT_SIZE c)) }
     ensures found { IfOk result (λ bytes. IsSome found) }
-    ensures none { (IsSome found → ⊥) → result ≡ Err Invalid }
+    ensures none { (IsSome found → ⊥) → result ≡ Err Count }
     ensures memory { IsSome found → IfErr result (λ refused. refused ≡ Memory) }
 {
     match found {
         Some(parameters) => Ok(canonical_bytes(alloc, &parameters)?),
-        None => Err(Refused::Invalid),
+        None => Err(Refused::Count),
     }
 }
 
 // Returns the bytes of ready parameters over a field.
 fn ready_over(alloc: Global, field: u32, rate: usize) -> Result<Vec<u8>, Refused>
     ensures ready { IfOk result (λ bytes. SpellReady field rate bytes.items) }
-    ensures none { (HasReady field rate → ⊥)
+    ensures none { (IsReadyField field → ⊥)
         → CallGivesBy (λ bytes. bytes.items) (Err Invalid) result }
+    ensures no_rate { IsReadyField field → ((2 ≤ rate) × (rate ≤ 8) → ⊥)
+        → CallGivesBy (λ bytes. bytes.items) (Err Count) result }
     ensures memory { HasReady field rate → IfErr result (λ refused. refused ≡ Memory) }
 {
     match field {
@@ -279,8 +281,8 @@ fn ready_over(alloc: Global, field: u32, rate: usize) -> Result<Vec<u8>, Refused
 /// Writes the bytes of ready parameters to the front of `parameters`, and their count to `parameters_len`: those of a rate from
 /// 2 to 8, with a capacity of one element, over a field of four words.
 ///
-/// Answers: 0; `E_INVALID` where there are none; `E_ROOM`, where `parameters_len` is what is needed; `E_MEMORY` in place of
-/// any.
+/// Answers: 0; `E_INVALID` for a number that names no such field; `E_COUNT` for another rate; `E_ROOM`, where `parameters_len` is
+/// what is needed; `E_MEMORY` in place of any.
 #[unsafe(no_mangle)]
 pub extern "C" fn paxidore_transcript_ready_parameters(
     alloc: Global,
@@ -293,7 +295,9 @@ pub extern "C" fn paxidore_transcript_ready_parameters(
     ensures ready { result ≡ pos 0 → (bytes : List ℕ) × SpellReady field rate bytes
         × (parameters.new ≡ bytes ++ drop (length bytes) parameters.old)
         × (parameters_len.new ≡ length bytes) }
-    ensures none { (HasReady field rate → ⊥) → GivesCode (refusal_code Invalid) result }
+    ensures none { (IsReadyField field → ⊥) → GivesCode (refusal_code Invalid) result }
+    ensures no_rate { IsReadyField field → ((2 ≤ rate) × (rate ≤ 8) → ⊥)
+        → GivesCode (refusal_code Count) result }
     ensures codes { HasReady field rate
         → (result ≡ pos 0) ⊎ (result ≡ refusal_code Room) ⊎ (result ≡ refusal_code Memory) }
     ensures kept { result ≢ pos 0 → parameters.new ≡ parameters.old }

@@ -36,6 +36,9 @@ fn verify_over<H: ArrayHash>(
     if !is_tree_size(size) {
         return Refused::Size.code();
     }
+    if index >= size {
+        return Refused::Index.code();
+    }
     let Ok(leaf) = Vec::from_slice(alloc, leaf) else {
         return Refused::Memory.code();
     };
@@ -60,19 +63,23 @@ fn multi_verify_over<H: ArrayHash>(
         (λ xs. ShowsLeaves (hashes_of (hashing_by H.leaf_hash H.node_hash))
         root.now size indexes.now xs (read_multi_path proof.now)) }
 {
-    match leaves_for(alloc, size, indexes.len(), leaves, lengths) {
-        Ok(leaves) => verdict_code(MultiPath::<Arrays<H>>::verify_bytes(
-            alloc,
-            &(),
-            &(),
-            root,
-            size,
-            indexes,
-            proof,
-            &leaves,
-        )),
-        Err(refused) => refused.code(),
+    let leaves = match leaves_for(alloc, size, indexes.len(), leaves, lengths) {
+        Ok(leaves) => leaves,
+        Err(refused) => return refused.code(),
+    };
+    if !are_indexes(size, indexes) {
+        return Refused::Index.code();
     }
+    verdict_code(MultiPath::<Arrays<H>>::verify_bytes(
+        alloc,
+        &(),
+        &(),
+        root,
+        size,
+        indexes,
+        proof,
+        &leaves,
+    ))
 }
 
 // The tree above some leaves.
@@ -190,8 +197,8 @@ fn multi_path_over<H: ArrayHash>(
 /// Returns whether the bytes of a path show a leaf at an index of a tree with this root and size.
 ///
 /// Answers: 0 for a yes, 1 for another root; else the first of `E_INVALID` for a number that names no hashing, `E_SIZE`,
-/// `E_TRUNCATED`, `E_INVALID` where bytes are left, `E_HEIGHT`, `E_INVALID` where its own index is another one or not below
-/// the size; `E_MEMORY` in place of any.
+/// `E_INDEX`, `E_TRUNCATED`, `E_INVALID` where bytes are left, `E_HEIGHT`, `E_INVALID` where its own index is another one;
+/// `E_MEMORY` in place of any.
 #[unsafe(no_mangle)]
 pub extern "C" fn paxidore_verify(
     alloc: Global,
@@ -216,8 +223,8 @@ pub extern "C" fn paxidore_verify(
 /// Returns whether the bytes of a strict multi-proof show leaves, one for each of some rising indexes, in such a tree.
 ///
 /// Answers: 0 for a yes, 1 for another root; else the first of `E_INVALID` for a number that names no hashing, `E_SIZE`,
-/// `E_COUNT`, `E_LENGTHS`, `E_TRUNCATED`, `E_INVALID` where it is not strict or bytes are left, `E_HEIGHT`, `E_INVALID` where
-/// its own indexes are others; `E_MEMORY` in place of any.
+/// `E_COUNT`, `E_LENGTHS`, `E_INDEX`, also where there is no index, `E_TRUNCATED`, `E_INVALID` where it is not strict or bytes
+/// are left, `E_HEIGHT`, `E_INVALID` where its own indexes are others; `E_MEMORY` in place of any.
 #[unsafe(no_mangle)]
 pub extern "C" fn paxidore_multi_verify(
     alloc: Global,

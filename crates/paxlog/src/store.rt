@@ -189,7 +189,11 @@ fn bind(
 }
 
 /// Returns the count and the root of the first entries of the log of a file, of as many as are named, or else of all.
-pub fn root_of_file(rt: &HostRuntime, path: &str, named: Option<usize>) -> Result<(usize, [u8; 32]), Stop> {
+pub fn root_of_file(
+    rt: &HostRuntime,
+    path: &str,
+    named: Option<usize>,
+) -> Result<(usize, [u8; 32]), Stop> {
     let disk = FileDisk::new(File::open(rt, path)?);
     match named {
         Some(size) if size > 0 => Ok((size, root_of_first(rt, &disk, size)?)),

@@ -1,4 +1,4 @@
-use Rattle.std.proofs.Common.{◌≡◌, refl, subst, ◌∙◌}
+use Rattle.std.proofs.Common.{◌≡◌, refl, subst, ◌∙◌, arith}
 use Rattle.std.proofs.lemmas.Bool.{lt-ltb}
 use Rattle.ark_base.specs.Outcome.{Answers}
 use Rattle.circom_bytes.specs.Hash.{node_outcome}
@@ -20,7 +20,10 @@ returns-clause-answer c = λ parameters of.
     let outcome = received_inclusion (element_hashes (node_outcome parameters)) c.args.root.now c.args.size c.args.index
     c.args.element.now path in
     let known : element_verdict parameters c.args.root.now c.args.size c.args.index c.args.element.now c.args.path.now
-    ≡ refusing outcome = rw (lt-ltb c.args.index c.args.size c.if-index-size.false) refl in
+    ≡ refusing outcome = rw (
+      lt-ltb 0 c.args.size (omega (arith, c.if-index-size.false)),
+      lt-ltb c.args.index c.args.size c.if-index-size.false,
+    ) refl in
     rw (known, c.verdict_code.ensures, verdict-fits (refusing c.verify_inclusion_bytes.result))
     (answers-give outcome c.verify_inclusion_bytes.result
     (subst (λ (hash : NodeHash). Answers (received_inclusion (element_hashes hash) c.args.root.now c.args.size

@@ -4,7 +4,7 @@ use Rattle.std.proofs.lemmas.Result.{IfErr-weaker}
 use Rattle.paxidore_c.proofs.Hashed.{handed-codes}
 use Rattle.paxidore_c.proofs.Written.{gives-itself, handed, seen}
 use Rattle.paxidore_c.specs.Transcript.{SpellReady}
-use Rattle.paxidore_c.specs.declared.refused.Refused.TheVariants.{Invalid}
+use Rattle.paxidore_c.specs.declared.refused.Refused.TheVariants.{Count, Invalid}
 use Rattle.paxidore_c.proofs.transcript.paxidore_transcript_ready_parameters.Goals as goal
 
 pub returns-clause-ready : goal.returns-clause-ready
@@ -26,6 +26,11 @@ pub returns-clause-none : goal.returns-clause-none
 returns-clause-none c = λ none.
     let fits = to_z-of_z w32 c.hand_over.result (record { sfits = c.hand_over.type_inv }) in
     rw fits (c.hand_over.ensures (Err Invalid) (c.ready_over.ensures.none none)).right_code
+
+pub returns-clause-no_rate : goal.returns-clause-no_rate
+returns-clause-no_rate c = λ ready none.
+    let fits = to_z-of_z w32 c.hand_over.result (record { sfits = c.hand_over.type_inv }) in
+    rw fits (c.hand_over.ensures (Err Count) (c.ready_over.ensures.no_rate ready none)).right_code
 
 -- no other name is told
 no-other : {A B C D : Type 0} → A ⊎ B ⊎ C ⊎ (⊥ × D) → A ⊎ B ⊎ C
