@@ -11,9 +11,8 @@
  * `x_len` are a buffer, its room, and where the count of what was written to its front goes: where the room is too
  * short the answer is E_ROOM, and the count that is needed goes there.
  *
- * Arguments have one order: what is written; memory that is changed; the hashing, the field and its parameters, or the
- * byte order and the table; the root and the size, or what is kept and the size, the old one before the new one; the
- * index or the key; what stands there; the proof. */
+ * Arguments have one order: what is written; what is changed; the hashing, the field and its parameters, or the byte
+ * order and the table; the root, or what is kept, and the size, old before new; the place; what is there; the proof. */
 #ifndef PAXIDORE_H
 #define PAXIDORE_H
 
@@ -55,8 +54,8 @@ enum paxidore_answer {
     PAXIDORE_E_INVALID = -3,   /* the bytes are no proof for these indexes: of others, not canonical, or with more
                                 * behind; or a number names no hashing, or no field */
     PAXIDORE_E_HEIGHT = -4,    /* the proof is for a tree of another size */
-    PAXIDORE_E_SIZE = -5,      /* no tree has this count of leaves, but 2, 4, 8, 16 .. of them, or this count of digests;
-                                * no log has one of the sizes, or the old one is above the new one; too few are kept */
+    PAXIDORE_E_SIZE = -5,      /* no tree has so many leaves, but 2, 4, 8, 16 .. of them, or so many digests; no log has
+                                * one of the sizes, or the old one is above the new one; or too few are kept */
     PAXIDORE_E_LENGTHS = -6,   /* the lengths of the leaves do not sum to that of their bytes */
     PAXIDORE_E_COUNT = -7,     /* not as many leaves as indexes; or more values than keys; or no hash takes so many */
     PAXIDORE_E_INDEX = -8,     /* an index is not below the count of leaves, or there is none */
@@ -114,8 +113,7 @@ PAXIDORE_ANSWERS PAXIDORE_NOT_NULL((2)) int32_t paxidore_multi_verify(uint32_t h
 PAXIDORE_ANSWERS PAXIDORE_NOT_NULL((1)) int32_t paxidore_root(uint8_t root[32], uint32_t hashing,
     const uint8_t *leaves, size_t leaves_len, const size_t *lengths, size_t count);
 
-/* Builds the tree above the leaves, and writes the bytes of the path of `index`, PAXIDORE_PATHBYTES of them. E_INVALID,
- * E_SIZE, E_LENGTHS, E_INDEX, E_ROOM, E_MEMORY. */
+/* Writes the path of `index` there, PAXIDORE_PATHBYTES. E_INVALID, E_SIZE, E_LENGTHS, E_INDEX, E_ROOM, E_MEMORY. */
 PAXIDORE_ANSWERS PAXIDORE_NOT_NULL((3)) int32_t paxidore_path(uint8_t *path, size_t path_room, size_t *path_len,
     uint32_t hashing, const uint8_t *leaves, size_t leaves_len, const size_t *lengths, size_t count, size_t index);
 
@@ -133,9 +131,8 @@ PAXIDORE_ANSWERS PAXIDORE_NOT_NULL((3)) int32_t paxidore_multi_path(
  * memory does not. E_INVALID where the number names none, E_SIZE where no tree has `tree_len` digests.
  *
  * While a call that writes runs, no other may read or write the same memory. A crash in it leaves a digest that is not
- * the hash of the two below it: paxidore_tree_check finds it and paxidore_tree_rebuild mends it, with the old leaves or
- * the new ones, if of each leaf's digest all bytes were written or none. Where memory holds no tree the calls take
- * whatever digests are there: check memory that others may have written, and keep the root elsewhere. */
+ * the hash of the two below it: paxidore_tree_check finds it and paxidore_tree_rebuild mends it. Where memory holds no
+ * tree the calls take whatever digests are there: check memory of others, and keep the root elsewhere. */
 /* The digests of a kept tree of so many leaves, and their bytes. */
 #define PAXIDORE_TREE_DIGESTS(size) (2U * (size_t)(size) - 1U)
 #define PAXIDORE_TREEBYTES(size) (PAXIDORE_DIGESTBYTES * PAXIDORE_TREE_DIGESTS(size))
@@ -156,9 +153,8 @@ PAXIDORE_ANSWERS int32_t paxidore_tree_set(uint8_t *tree, size_t tree_len, uint3
 
 /* The same of several leaves, so that the last of an index counts; level by level. Where the indexes rise, each digest
  * is hashed once. E_INVALID, E_SIZE, E_COUNT, E_LENGTHS, E_INDEX also for none. */
-PAXIDORE_ANSWERS int32_t paxidore_tree_set_many(uint8_t *tree, size_t tree_len, uint32_t hashing,
-    const size_t *indexes, size_t indexes_count, const uint8_t *leaves, size_t leaves_len,
-    const size_t *lengths, size_t count);
+PAXIDORE_ANSWERS int32_t paxidore_tree_set_many(uint8_t *tree, size_t tree_len, uint32_t hashing, const size_t *indexes,
+    size_t indexes_count, const uint8_t *leaves, size_t leaves_len, const size_t *lengths, size_t count);
 
 /* Writes the first digest of the memory, the root of a tree. E_SIZE. */
 PAXIDORE_ANSWERS PAXIDORE_NOT_NULL((1)) int32_t paxidore_tree_root(uint8_t root[32],
@@ -169,9 +165,8 @@ PAXIDORE_ANSWERS PAXIDORE_NOT_NULL((3)) int32_t paxidore_tree_path(uint8_t *path
     const uint8_t *tree, size_t tree_len, size_t index);
 
 /* The same of some indexes, in any order, as paxidore_multi_path. E_SIZE, E_INDEX also for none, E_MEMORY, E_ROOM. */
-PAXIDORE_ANSWERS PAXIDORE_NOT_NULL((3)) int32_t paxidore_tree_multi_path(
-    uint8_t *proof, size_t proof_room, size_t *proof_len, const uint8_t *tree, size_t tree_len,
-    const size_t *indexes, size_t indexes_count);
+PAXIDORE_ANSWERS PAXIDORE_NOT_NULL((3)) int32_t paxidore_tree_multi_path( uint8_t *proof, size_t proof_room,
+    size_t *proof_len, const uint8_t *tree, size_t tree_len, const size_t *indexes, size_t indexes_count);
 
 /* OK where each digest above the leaves' is the hash of the two below it, else NOT_SHOWN. E_INVALID, E_SIZE. */
 PAXIDORE_ANSWERS int32_t paxidore_tree_check(uint32_t hashing, const uint8_t *tree, size_t tree_len);
@@ -202,8 +197,7 @@ PAXIDORE_ANSWERS PAXIDORE_NOT_NULL((1, 3)) int32_t paxidore_log_verify_consisten
 /* ---- Keepers of a transparency log of any size. What is kept are the stored digests: of each complete subtree of 2^k
  * entries the root, in the order in which the subtrees are completed. What is stored is never written again, so it can
  * lie in a mapped file. `kept_len` and `more_room` count digests, not bytes. A call looks at the stored digests of the
- * size that is asked about, be it the last one or one before, below 2^63. Of other digests than a log's it answers all
- * the same: paxidore_log_check tells. */
+ * size that is asked about, below 2^63, and takes others than a log's: paxidore_log_check tells. */
 /* How many digests a log of so many entries has stored, 2 n less the count of ones of n; 0 for a size of 2^63 and
  * above. It allocates nothing, nor do paxidore_log_root and paxidore_log_check. */
 size_t paxidore_log_kept(size_t size);
@@ -225,9 +219,8 @@ PAXIDORE_ANSWERS PAXIDORE_NOT_NULL((3)) int32_t paxidore_log_inclusion(
 
 /* Writes the bytes of the proof that the first `size` entries continue the first `old_size` ones; of equal sizes there
  * are none. E_SIZE, also for the old size 0 and for one above the size, E_ROOM, E_MEMORY. */
-PAXIDORE_ANSWERS PAXIDORE_NOT_NULL((3)) int32_t paxidore_log_consistency(
-    uint8_t *proof, size_t proof_room, size_t *proof_len, const uint8_t *kept, size_t kept_len, size_t old_size,
-    size_t size);
+PAXIDORE_ANSWERS PAXIDORE_NOT_NULL((3)) int32_t paxidore_log_consistency( uint8_t *proof, size_t proof_room,
+    size_t *proof_len, const uint8_t *kept, size_t kept_len, size_t old_size, size_t size);
 
 /* OK where each stored digest of two others is their hash: they are those of a log of the entries whose own digests
  * stand among them. Else NOT_SHOWN: they are no log's. All are hashed. E_SIZE. */
@@ -235,54 +228,60 @@ PAXIDORE_ANSWERS int32_t paxidore_log_check(const uint8_t *kept, size_t kept_len
 
 /* ---- Logs in files of the caller's. No call reads or writes a file: the calls say what is to be read and written.
  * C.md and paxidore(3) say more, FORMATS.md what the file has. Lock the file before anything is read.
+ * Begin with no piece. After E_MORE read the pieces that were put behind the others, put their bytes behind those of
+ * the others, and make the same call again: three times at most. Write a step, sync the file, and only then go on; one
+ * of no bytes is a sync alone. Whatever stops this, the file has the log as it was or with the entries.
  *
- * `places` has a place in the file and a count of bytes for each piece, PAXIDORE_LOG_PIECES_MAX are enough. Begin with
- * `*places_len` 0 and no byte of pieces. After E_MORE read the pieces that were put behind the others, put their bytes
- * behind those of the others, and make the same call again: three times at most. `steps` has a place and a count for
- * each step, and `bytes` their bytes, one behind the other: write a step, sync the file, and only then go on; one of no
- * bytes is a sync alone. Whatever stops this, the file has the log as it was or with the entries.
- *
- * The answers of each, in this order: E_ROOM where `places` has no room; E_LENGTHS where the pieces have not as many
- * bytes as their places say; E_MORE; then its own. E_DAMAGED says that the digests do not lead to the root that the
- * head states, or that a proof of them does not hold; a head of an earlier version states none. */
+ * The answers of each, in this order: E_ROOM where the pieces have no room; E_LENGTHS where they have not as many bytes
+ * as their places say; E_MORE; then its own. E_DAMAGED says that the digests do not lead to the root that the head
+ * states, or that a proof of them does not hold; a head of an earlier version states none. */
 #define PAXIDORE_LOG_PIECES_MAX 384U
 #define PAXIDORE_LOG_STEPS_MAX 8U
+typedef struct paxidore_piece { size_t at, len; } paxidore_piece; /* some bytes of a file: where, and how many */
+
+/* What was read of a file, or is to be read: pieces, and the bytes of them one behind the other. No pointer is NULL. */
+typedef struct paxidore_log_pieces {
+    paxidore_piece *places;
+    size_t places_room, places_len;
+    const uint8_t *bytes;
+    size_t bytes_len, file_len;
+} paxidore_log_pieces;
+
+/* What is to be written: the places of steps, and the bytes of them one behind the other. No pointer is NULL. */
+typedef struct paxidore_log_steps {
+    paxidore_piece *places;
+    size_t places_room, places_len;
+    uint8_t *bytes;
+    size_t bytes_room, bytes_len;
+} paxidore_log_steps;
 
 /* How many bytes are enough for what is to be written for so many entries, 0 for a new log. It allocates nothing. */
 size_t paxidore_log_file_room(size_t count);
 
 /* What is to be done before a file is appended to, each time that it is opened: one of no bytes, or of a part of a new
- * log's head, gets that head (sync its folder too), any other one is synced. E_ROOM also for `bytes` and `steps`. */
-PAXIDORE_ANSWERS PAXIDORE_NOT_NULL((3, 6, 9)) int32_t paxidore_log_file_make(
-    uint8_t *bytes, size_t bytes_room, size_t *bytes_len, size_t *steps, size_t steps_room, size_t *steps_len,
-    size_t *places, size_t places_room, size_t *places_len, size_t file_len, const uint8_t *pieces, size_t pieces_len);
+ * log's head, gets that head (sync its folder too), any other one is synced. E_ROOM also for `steps`. */
+PAXIDORE_ANSWERS PAXIDORE_NOT_NULL((1, 2)) int32_t paxidore_log_file_make(
+    paxidore_log_steps *steps, paxidore_log_pieces *pieces);
 
 /* Writes how many entries there are. E_NO_LOG, E_HEAD, E_SHORT. */
-PAXIDORE_ANSWERS PAXIDORE_NOT_NULL((1, 4)) int32_t paxidore_log_file_size(size_t *size,
-    size_t *places, size_t places_room, size_t *places_len, size_t file_len, const uint8_t *pieces, size_t pieces_len);
+PAXIDORE_ANSWERS PAXIDORE_NOT_NULL((1, 2)) int32_t paxidore_log_file_size(size_t *size, paxidore_log_pieces *pieces);
 
 /* What is to be written for more entries, handed over as leaves, if any; and the new size. E_LENGTHS, E_NO_LOG,
- * E_HEAD, E_SHORT, E_DAMAGED, E_SIZE for a new size of 2^63 or more, E_MEMORY, E_ROOM for `bytes` and `steps`. */
-PAXIDORE_ANSWERS PAXIDORE_NOT_NULL((3, 6, 7, 10)) int32_t paxidore_log_file_append(
-    uint8_t *bytes, size_t bytes_room, size_t *bytes_len, size_t *steps, size_t steps_room, size_t *steps_len,
-    size_t *size, size_t *places, size_t places_room, size_t *places_len, size_t file_len,
-    const uint8_t *pieces, size_t pieces_len, const uint8_t *entries, size_t entries_len,
-    const size_t *lengths, size_t count);
+ * E_HEAD, E_SHORT, E_DAMAGED, E_SIZE for a new size of 2^63 or more, E_MEMORY, E_ROOM for `steps`. */
+PAXIDORE_ANSWERS PAXIDORE_NOT_NULL((1, 2, 3)) int32_t paxidore_log_file_append( paxidore_log_steps *steps, size_t *size,
+    paxidore_log_pieces *pieces, const uint8_t *entries, size_t entries_len, const size_t *lengths, size_t count);
 
 /* Writes the root of the first `size` entries. E_NO_LOG, E_HEAD, E_SHORT, E_DAMAGED, E_SIZE for more than there are. */
-PAXIDORE_ANSWERS PAXIDORE_NOT_NULL((1, 4)) int32_t paxidore_log_file_root(uint8_t root[32],
-    size_t *places, size_t places_room, size_t *places_len, size_t file_len, const uint8_t *pieces, size_t pieces_len,
-    size_t size);
+PAXIDORE_ANSWERS PAXIDORE_NOT_NULL((1, 2)) int32_t paxidore_log_file_root(uint8_t root[32],
+    paxidore_log_pieces *pieces, size_t size);
 
 /* As paxidore_log_inclusion. E_NO_LOG, E_HEAD, E_SHORT, E_DAMAGED, E_SIZE, E_INDEX, E_DAMAGED, E_ROOM, E_MEMORY. */
-PAXIDORE_ANSWERS PAXIDORE_NOT_NULL((3, 6)) int32_t paxidore_log_file_inclusion(
-    uint8_t *path, size_t path_room, size_t *path_len, size_t *places, size_t places_room, size_t *places_len,
-    size_t file_len, const uint8_t *pieces, size_t pieces_len, size_t size, size_t index);
+PAXIDORE_ANSWERS PAXIDORE_NOT_NULL((3, 4)) int32_t paxidore_log_file_inclusion(
+    uint8_t *path, size_t path_room, size_t *path_len, paxidore_log_pieces *pieces, size_t size, size_t index);
 
 /* As paxidore_log_consistency. E_NO_LOG, E_HEAD, E_SHORT, E_DAMAGED, E_SIZE, E_DAMAGED, E_ROOM, E_MEMORY. */
-PAXIDORE_ANSWERS PAXIDORE_NOT_NULL((3, 6)) int32_t paxidore_log_file_consistency(
-    uint8_t *proof, size_t proof_room, size_t *proof_len, size_t *places, size_t places_room, size_t *places_len,
-    size_t file_len, const uint8_t *pieces, size_t pieces_len, size_t old_size, size_t size);
+PAXIDORE_ANSWERS PAXIDORE_NOT_NULL((3, 4)) int32_t paxidore_log_file_consistency(
+    uint8_t *proof, size_t proof_room, size_t *proof_len, paxidore_log_pieces *pieces, size_t old_size, size_t size);
 
 /* As paxidore_log_check, of the log whose file has these bytes, all of them. E_NO_LOG, E_HEAD, E_SHORT. */
 PAXIDORE_ANSWERS int32_t paxidore_log_file_check(const uint8_t *file, size_t file_len);
@@ -358,14 +357,12 @@ PAXIDORE_ANSWERS PAXIDORE_NOT_NULL((3)) int32_t paxidore_transcript_ready_parame
  * each element n stands there as n * 2^256 modulo the modulus, and a call reads it without a product; over the other
  * two fields they are the parameters' own bytes. Prepare once, and hand them to each call with PAXIDORE_PREPARED added
  * to the field's number: it answers as for the parameters. E_TRUNCATED, E_INVALID, E_ROOM, E_MEMORY. */
-PAXIDORE_ANSWERS PAXIDORE_NOT_NULL((3)) int32_t paxidore_transcript_prepare(
-    uint8_t *prepared, size_t prepared_room, size_t *prepared_len, uint32_t field,
-    const uint8_t *parameters, size_t parameters_len);
+PAXIDORE_ANSWERS PAXIDORE_NOT_NULL((3)) int32_t paxidore_transcript_prepare( uint8_t *prepared, size_t prepared_room,
+    size_t *prepared_len, uint32_t field, const uint8_t *parameters, size_t parameters_len);
 
 /* Writes the state that has absorbed nothing. E_TRUNCATED, E_INVALID, E_ROOM, E_MEMORY. */
-PAXIDORE_ANSWERS PAXIDORE_NOT_NULL((3)) int32_t paxidore_transcript_init(
-    uint8_t *state, size_t state_room, size_t *state_len, uint32_t field,
-    const uint8_t *parameters, size_t parameters_len);
+PAXIDORE_ANSWERS PAXIDORE_NOT_NULL((3)) int32_t paxidore_transcript_init( uint8_t *state, size_t state_room,
+    size_t *state_len, uint32_t field, const uint8_t *parameters, size_t parameters_len);
 
 /* Absorbs elements, one behind the other. Absorbing none changes nothing. E_TRUNCATED, E_INVALID, E_MEMORY. */
 PAXIDORE_ANSWERS int32_t paxidore_transcript_absorb(uint8_t *state, size_t state_len, uint32_t field,
@@ -419,9 +416,8 @@ PAXIDORE_ANSWERS PAXIDORE_NOT_NULL((1)) int32_t paxidore_poseidon_root(uint8_t r
     const uint8_t *table, size_t table_len, const uint8_t *elements, size_t count);
 
 /* Writes the path of `index` in `count` elements. E_COUNT, E_SIZE, E_INVALID, E_INDEX, E_ROOM, E_MEMORY. */
-PAXIDORE_ANSWERS PAXIDORE_NOT_NULL((3)) int32_t paxidore_poseidon_path(
-    uint8_t *path, size_t path_room, size_t *path_len, const uint8_t *table, size_t table_len,
-    const uint8_t *elements, size_t count, size_t index);
+PAXIDORE_ANSWERS PAXIDORE_NOT_NULL((3)) int32_t paxidore_poseidon_path( uint8_t *path, size_t path_room,
+    size_t *path_len, const uint8_t *table, size_t table_len, const uint8_t *elements, size_t count, size_t index);
 
 /* OK where the bytes of a path show that `element` stands at `index` among `size` elements with this root: then it does
  * in every list of so many with this root, or two different pairs with one hash are at hand. NOT_SHOWN, E_COUNT, E_SIZE

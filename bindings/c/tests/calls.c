@@ -163,7 +163,7 @@ static void multi_paths(const struct hashing *h) {
         CHECK(paxidore_multi_verify(h->number, root, SIZE, indexes, count, leaves, leaves_len, lengths, count - 1, proof, len) ==
               PAXIDORE_E_COUNT);
         CHECK(paxidore_multi_verify(h->number, root, SIZE, indexes, count - 1, leaves, leaves_len - lengths[count - 1], lengths, count - 1,
-                              proof, len) == PAXIDORE_E_INVALID);
+                              proof, len) == (count > 1 ? PAXIDORE_E_INVALID : PAXIDORE_E_INDEX));
         CHECK(paxidore_multi_verify(h->number, root, SIZE, indexes, count, leaves, leaves_len + 1, lengths, count, proof, len) ==
               PAXIDORE_E_LENGTHS);
         CHECK(paxidore_multi_verify(h->number, root, SIZE, indexes, count, leaves, leaves_len, lengths, count, proof, len - 1) ==

@@ -28,34 +28,58 @@ struct file {
 
 /* What was read of one for a call, in how many turns. */
 struct reading {
-    size_t places[2 * PAXIDORE_LOG_PIECES_MAX], count, pieces_len, turns;
-    uint8_t pieces[ROOM];
+    paxidore_piece places[PAXIDORE_LOG_PIECES_MAX];
+    uint8_t bytes[ROOM];
+    paxidore_log_pieces pieces;
+    size_t turns;
 };
 
 /* What is to be written. */
 struct plan {
-    size_t steps[2 * PAXIDORE_LOG_STEPS_MAX], steps_len, bytes_len;
+    paxidore_piece places[PAXIDORE_LOG_STEPS_MAX];
     uint8_t bytes[ROOM];
+    paxidore_log_steps steps;
 };
 
 static struct reading read_so_far;
 static struct plan plan;
 
-#define BEGIN (read_so_far.count = read_so_far.pieces_len = read_so_far.turns = 0)
-#define PIECES(file) \
-    read_so_far.places, PAXIDORE_LOG_PIECES_MAX, &read_so_far.count, (file)->len, read_so_far.pieces, read_so_far.pieces_len
-#define PLAN plan.bytes, sizeof plan.bytes, &plan.bytes_len, plan.steps, PAXIDORE_LOG_STEPS_MAX, &plan.steps_len
+static void begin(const struct file *file) {
+    paxidore_log_pieces none = {read_so_far.places, PAXIDORE_LOG_PIECES_MAX, 0, read_so_far.bytes, 0, 0};
+    none.file_len = file->len;
+    read_so_far.pieces = none;
+    read_so_far.turns = 0;
+}
+#define PIECES &read_so_far.pieces
+
+/* Room for a plan, whatever stands in it. */
+static paxidore_log_steps *room_of_plan(size_t bytes_room) {
+    paxidore_log_steps steps = {plan.places, PAXIDORE_LOG_STEPS_MAX, 99, plan.bytes, 0, 99};
+    steps.bytes_room = bytes_room;
+    plan.steps = steps;
+    return &plan.steps;
+}
+#define PLAN room_of_plan(sizeof plan.bytes)
+
+/* A call changes the places and the counts alone. */
+static int keeps_the_rest(const struct file *file) {
+    const paxidore_log_pieces *pieces = &read_so_far.pieces;
+    const paxidore_log_steps *steps = &plan.steps;
+    return pieces->places == read_so_far.places && pieces->places_room == PAXIDORE_LOG_PIECES_MAX &&
+           pieces->bytes == read_so_far.bytes && pieces->file_len == file->len && steps->places == plan.places &&
+           steps->places_room == PAXIDORE_LOG_STEPS_MAX && steps->bytes == plan.bytes && steps->bytes_room <= sizeof plan.bytes;
+}
 
 /* Reads what is asked for, where something is. */
 static int is_more(const struct file *file, size_t count_before, int32_t answer) {
     if (answer != PAXIDORE_E_MORE)
         return 0;
-    CHECK(read_so_far.count > count_before && read_so_far.count <= PAXIDORE_LOG_PIECES_MAX);
-    for (size_t piece = count_before; piece < read_so_far.count; piece++) {
-        size_t place = read_so_far.places[2 * piece], count = read_so_far.places[2 * piece + 1];
+    CHECK(read_so_far.pieces.places_len > count_before && read_so_far.pieces.places_len <= PAXIDORE_LOG_PIECES_MAX);
+    for (size_t piece = count_before; piece < read_so_far.pieces.places_len; piece++) {
+        size_t place = read_so_far.places[piece].at, count = read_so_far.places[piece].len;
         CHECK(place <= file->len && count <= file->len - place);
-        memcpy(read_so_far.pieces + read_so_far.pieces_len, file->bytes + place, count);
-        read_so_far.pieces_len += count;
+        memcpy(read_so_far.bytes + read_so_far.pieces.bytes_len, file->bytes + place, count);
+        read_so_far.pieces.bytes_len += count;
     }
     read_so_far.turns++;
     return 1;
@@ -65,18 +89,19 @@ static int is_more(const struct file *file, size_t count_before, int32_t answer)
 #define ASKED(answer, file, call)                        \
     do {                                                 \
         size_t before_;                                  \
-        BEGIN;                                           \
+        begin(file);                                     \
         do {                                             \
-            before_ = read_so_far.count;                 \
+            before_ = read_so_far.pieces.places_len;     \
             (answer) = (call);                           \
         } while (is_more((file), before_, (answer)));    \
+        CHECK(!plan.steps.places || keeps_the_rest(file)); \
     } while (0)
 
 /* Carries out the first steps of the plan, and of the next one so many bytes. */
 static void carry_out(struct file *file, size_t steps, size_t part) {
     size_t begin = 0;
-    for (size_t step = 0; step < plan.steps_len && step <= steps; step++) {
-        size_t place = plan.steps[2 * step], count = plan.steps[2 * step + 1], done = step < steps ? count : part;
+    for (size_t step = 0; step < plan.steps.places_len && step <= steps; step++) {
+        size_t place = plan.places[step].at, count = plan.places[step].len, done = step < steps ? count : part;
         if (done > count)
             done = count;
         memcpy(file->bytes + place, plan.bytes + begin, done);
@@ -103,20 +128,20 @@ static int is_log_of(const struct file *file, size_t size, int thorough) {
     uint8_t own[32], other[32], path[PAXIDORE_LOG_PROOFBYTES_MAX], wanted[PAXIDORE_LOG_PROOFBYTES_MAX];
     size_t found, path_len, wanted_len;
     int32_t answer;
-    ASKED(answer, file, paxidore_log_file_size(&found, PIECES(file)));
+    ASKED(answer, file, paxidore_log_file_size(&found, PIECES));
     if (answer != PAXIDORE_OK || found != size || read_so_far.turns != 1)
         return 0;
-    ASKED(answer, file, paxidore_log_file_root(own, PIECES(file), size));
+    ASKED(answer, file, paxidore_log_file_root(own, PIECES, size));
     if (answer != PAXIDORE_OK || read_so_far.turns > 3 || paxidore_log_root(other, kept, kept_len, size) != PAXIDORE_OK ||
         memcmp(own, other, 32) != 0)
         return 0;
     for (size_t index = 0; thorough && index < size; index++) {
-        ASKED(answer, file, paxidore_log_file_inclusion(path, sizeof path, &path_len, PIECES(file), size, index));
+        ASKED(answer, file, paxidore_log_file_inclusion(path, sizeof path, &path_len, PIECES, size, index));
         if (answer != PAXIDORE_OK || read_so_far.turns > 3 ||
             paxidore_log_inclusion(wanted, sizeof wanted, &wanted_len, kept, kept_len, size, index) != PAXIDORE_OK ||
             path_len != wanted_len || memcmp(path, wanted, path_len) != 0)
             return 0;
-        ASKED(answer, file, paxidore_log_file_consistency(path, sizeof path, &path_len, PIECES(file), index + 1, size));
+        ASKED(answer, file, paxidore_log_file_consistency(path, sizeof path, &path_len, PIECES, index + 1, size));
         if (answer != PAXIDORE_OK || read_so_far.turns > 3 ||
             paxidore_log_consistency(wanted, sizeof wanted, &wanted_len, kept, kept_len, index + 1, size) != PAXIDORE_OK ||
             path_len != wanted_len || memcmp(path, wanted, path_len) != 0)
@@ -134,36 +159,36 @@ static void appends(void) {
     int32_t answer;
     for (size_t n = 0; n < MOST; n++)
         entries[n] = (uint8_t)n, lengths[n] = 1;
-    ASKED(answer, &file, paxidore_log_file_make(PLAN, PIECES(&file)));
-    CHECK(answer == PAXIDORE_OK && plan.bytes_len > 0 && plan.bytes_len <= paxidore_log_file_room(0));
-    const size_t head = plan.bytes_len;
+    ASKED(answer, &file, paxidore_log_file_make(PLAN, PIECES));
+    CHECK(answer == PAXIDORE_OK && plan.steps.bytes_len > 0 && plan.steps.bytes_len <= paxidore_log_file_room(0));
+    const size_t head = plan.steps.bytes_len;
     /* whatever part of the head is written, it is made anew */
     for (size_t part = 0; part <= head; part++) {
         struct plan whole = plan;
         memset(&torn, 0, sizeof torn);
         carry_out(&torn, 0, part);
-        ASKED(answer, &torn, paxidore_log_file_make(PLAN, PIECES(&torn)));
-        CHECK(answer == PAXIDORE_OK && (plan.bytes_len > 0) == (part < head) && plan.steps_len == 1);
-        carry_out(&torn, plan.steps_len, 0);
+        ASKED(answer, &torn, paxidore_log_file_make(PLAN, PIECES));
+        CHECK(answer == PAXIDORE_OK && (plan.steps.bytes_len > 0) == (part < head) && plan.steps.places_len == 1);
+        carry_out(&torn, plan.steps.places_len, 0);
         CHECK(is_log_of(&torn, 0, 1));
         plan = whole;
     }
-    carry_out(&file, plan.steps_len, 0);
+    carry_out(&file, plan.steps.places_len, 0);
     for (size_t n = 0; n < sizeof counts / sizeof *counts; n++) {
         size_t count = counts[n];
-        ASKED(answer, &file, paxidore_log_file_append(PLAN, &grown, PIECES(&file), entries + size, count, lengths, count));
+        ASKED(answer, &file, paxidore_log_file_append(PLAN, &grown, PIECES, entries + size, count, lengths, count));
         CHECK(answer == PAXIDORE_OK && grown == size + count && read_so_far.turns <= 3);
-        CHECK(plan.bytes_len <= paxidore_log_file_room(count) && plan.steps_len <= PAXIDORE_LOG_STEPS_MAX);
+        CHECK(plan.steps.bytes_len <= paxidore_log_file_room(count) && plan.steps.places_len <= PAXIDORE_LOG_STEPS_MAX);
         keep(entries + size, count, lengths, count);
         struct plan whole = plan;
-        for (size_t step = 0; step < whole.steps_len; step++)
-            for (size_t part = 0; part <= whole.steps[2 * step + 1]; part++) {
+        for (size_t step = 0; step < whole.steps.places_len; step++)
+            for (size_t part = 0; part <= whole.places[step].len; part++) {
                 torn = file, plan = whole;
                 carry_out(&torn, step, part);
                 CHECK(is_log_of(&torn, size, 0) || is_log_of(&torn, grown, 0));
             }
         plan = whole;
-        carry_out(&file, plan.steps_len, 0);
+        carry_out(&file, plan.steps.places_len, 0);
         size = grown;
         CHECK(is_log_of(&file, size, 1));
         /* a bit of the head that is flipped is told, or harmless */
@@ -171,43 +196,44 @@ static void appends(void) {
             torn = file;
             torn.bytes[bit / 8] ^= (uint8_t)(1 << bit % 8);
             size_t found;
-            ASKED(answer, &torn, paxidore_log_file_size(&found, PIECES(&torn)));
+            ASKED(answer, &torn, paxidore_log_file_size(&found, PIECES));
             CHECK(answer == PAXIDORE_E_NO_LOG || answer == PAXIDORE_E_SHORT || is_log_of(&torn, size, 0));
         }
     }
     /* no entries */
-    ASKED(answer, &file, paxidore_log_file_append(PLAN, &grown, PIECES(&file), NULL, 0, NULL, 0));
-    CHECK(answer == PAXIDORE_OK && grown == size && plan.bytes_len == 0 && plan.steps_len == 0);
+    ASKED(answer, &file, paxidore_log_file_append(PLAN, &grown, PIECES, NULL, 0, NULL, 0));
+    CHECK(answer == PAXIDORE_OK && grown == size && plan.steps.bytes_len == 0 && plan.steps.places_len == 0);
     /* refusals */
     uint8_t root[32], path[PAXIDORE_LOG_PROOFBYTES_MAX];
     size_t count = 99, lies[1] = {2};
-    ASKED(answer, &file, paxidore_log_file_root(root, PIECES(&file), size + 1));
+    ASKED(answer, &file, paxidore_log_file_root(root, PIECES, size + 1));
     CHECK(answer == PAXIDORE_E_SIZE);
-    ASKED(answer, &file, paxidore_log_file_inclusion(path, sizeof path, &count, PIECES(&file), size, size));
+    ASKED(answer, &file, paxidore_log_file_inclusion(path, sizeof path, &count, PIECES, size, size));
     CHECK(answer == PAXIDORE_E_INDEX && count == 99);
-    ASKED(answer, &file, paxidore_log_file_inclusion(path, sizeof path, &count, PIECES(&file), size + 1, 0));
+    ASKED(answer, &file, paxidore_log_file_inclusion(path, sizeof path, &count, PIECES, size + 1, 0));
     CHECK(answer == PAXIDORE_E_SIZE && count == 99);
-    ASKED(answer, &file, paxidore_log_file_inclusion(path, 31, &count, PIECES(&file), size, 0));
+    ASKED(answer, &file, paxidore_log_file_inclusion(path, 31, &count, PIECES, size, 0));
     CHECK(answer == PAXIDORE_E_ROOM && count > 31);
-    ASKED(answer, &file, paxidore_log_file_consistency(path, sizeof path, &count, PIECES(&file), 0, size));
+    ASKED(answer, &file, paxidore_log_file_consistency(path, sizeof path, &count, PIECES, 0, size));
     CHECK(answer == PAXIDORE_E_SIZE);
-    ASKED(answer, &file, paxidore_log_file_append(PLAN, &grown, PIECES(&file), entries, 1, lies, 1));
+    ASKED(answer, &file, paxidore_log_file_append(PLAN, &grown, PIECES, entries, 1, lies, 1));
     CHECK(answer == PAXIDORE_E_LENGTHS);
     ASKED(answer, &file,
-          paxidore_log_file_append(plan.bytes, 1, &plan.bytes_len, plan.steps, PAXIDORE_LOG_STEPS_MAX, &plan.steps_len, &grown,
-                                   PIECES(&file), entries, 1, lengths, 1));
-    CHECK(answer == PAXIDORE_E_ROOM && plan.bytes_len > 1);
-    BEGIN;
-    CHECK(paxidore_log_file_size(&count, read_so_far.places, 0, &read_so_far.count, file.len, NULL, 0) == PAXIDORE_E_ROOM);
-    CHECK(paxidore_log_file_size(&count, PIECES(&file)) == PAXIDORE_E_MORE && read_so_far.count == 1);
-    CHECK(paxidore_log_file_size(&count, PIECES(&file)) == PAXIDORE_E_LENGTHS && read_so_far.count == 1);
-    read_so_far.count = PAXIDORE_LOG_PIECES_MAX + 1;
-    CHECK(paxidore_log_file_size(&count, PIECES(&file)) == PAXIDORE_E_ROOM);
+          paxidore_log_file_append(room_of_plan(1), &grown, PIECES, entries, 1, lengths, 1));
+    CHECK(answer == PAXIDORE_E_ROOM && plan.steps.bytes_len > 1 && plan.steps.places_len > 1);
+    begin(&file);
+    read_so_far.pieces.places_room = 0;
+    CHECK(paxidore_log_file_size(&count, PIECES) == PAXIDORE_E_ROOM && read_so_far.pieces.places_len == 0);
+    begin(&file);
+    CHECK(paxidore_log_file_size(&count, PIECES) == PAXIDORE_E_MORE && read_so_far.pieces.places_len == 1);
+    CHECK(paxidore_log_file_size(&count, PIECES) == PAXIDORE_E_LENGTHS && read_so_far.pieces.places_len == 1);
+    read_so_far.pieces.places_len = PAXIDORE_LOG_PIECES_MAX + 1;
+    CHECK(paxidore_log_file_size(&count, PIECES) == PAXIDORE_E_ROOM);
     /* a file that is shorter */
     for (size_t len = 0; len < file.len; len++) {
         torn = file;
         torn.len = len;
-        ASKED(answer, &torn, paxidore_log_file_size(&count, PIECES(&torn)));
+        ASKED(answer, &torn, paxidore_log_file_size(&count, PIECES));
         CHECK(answer == (len < head ? PAXIDORE_E_NO_LOG : PAXIDORE_E_SHORT));
         CHECK(paxidore_log_file_check(torn.bytes, len) == answer);
     }
@@ -218,24 +244,24 @@ static void appends(void) {
     /* a digest that is no peak: the root is the one that the head states, and proofs that need the digest are refused */
     torn = file;
     torn.bytes[head] ^= 1;
-    ASKED(answer, &torn, paxidore_log_file_root(root, PIECES(&torn), size));
+    ASKED(answer, &torn, paxidore_log_file_root(root, PIECES, size));
     CHECK(answer == PAXIDORE_OK);
-    ASKED(answer, &torn, paxidore_log_file_inclusion(path, sizeof path, &count, PIECES(&torn), size, 1));
+    ASKED(answer, &torn, paxidore_log_file_inclusion(path, sizeof path, &count, PIECES, size, 1));
     CHECK(answer == PAXIDORE_E_DAMAGED);
-    ASKED(answer, &torn, paxidore_log_file_consistency(path, sizeof path, &count, PIECES(&torn), 1, size));
+    ASKED(answer, &torn, paxidore_log_file_consistency(path, sizeof path, &count, PIECES, 1, size));
     CHECK(answer == PAXIDORE_E_DAMAGED);
     /* the last digest is a peak: the log of the file has an odd number of entries */
     torn = file;
     torn.bytes[file.len - 1] ^= 1;
     CHECK(size % 2 == 1);
-    ASKED(answer, &torn, paxidore_log_file_root(root, PIECES(&torn), size));
+    ASKED(answer, &torn, paxidore_log_file_root(root, PIECES, size));
     CHECK(answer == PAXIDORE_E_DAMAGED);
-    ASKED(answer, &torn, paxidore_log_file_append(PLAN, &grown, PIECES(&torn), entries, 1, lengths, 1));
+    ASKED(answer, &torn, paxidore_log_file_append(PLAN, &grown, PIECES, entries, 1, lengths, 1));
     CHECK(answer == PAXIDORE_E_DAMAGED);
     /* neither slot is whole */
     torn = file;
     torn.bytes[32] ^= 1, torn.bytes[64] ^= 1;
-    ASKED(answer, &torn, paxidore_log_file_size(&count, PIECES(&torn)));
+    ASKED(answer, &torn, paxidore_log_file_size(&count, PIECES));
     CHECK(answer == PAXIDORE_E_HEAD && paxidore_log_file_check(torn.bytes, torn.len) == answer);
 }
 

@@ -19,14 +19,46 @@ _STEPS = 8
 # how many bytes the file of a log without entries has
 _HEAD = 96
 
+
+class _Piece(ctypes.Structure):
+    """Some bytes of a file: where they begin, and how many they are."""
+
+    _fields_ = [("at", _size), ("len", _size)]
+
+
+class _Pieces(ctypes.Structure):
+    """What was read of a log's file, or is to be read."""
+
+    _fields_ = [
+        ("places", ctypes.POINTER(_Piece)),
+        ("places_room", _size),
+        ("places_len", _size),
+        ("bytes", _bytes),
+        ("bytes_len", _size),
+        ("file_len", _size),
+    ]
+
+
+class _Steps(ctypes.Structure):
+    """What is to be written to a log's file."""
+
+    _fields_ = [
+        ("places", ctypes.POINTER(_Piece)),
+        ("places_room", _size),
+        ("places_len", _size),
+        ("bytes", ctypes.c_void_p),
+        ("bytes_room", _size),
+        ("bytes_len", _size),
+    ]
+
+
+_pieces, _steps = ctypes.POINTER(_Pieces), ctypes.POINTER(_Steps)
 _file_room = _call("log_file_room", _size, _size)
-_pieces = (_sizes, _size, _sizes, _size, _bytes, _size)
-_steps = (ctypes.c_void_p, _size, _sizes, _sizes, _size, _sizes)
-_file_make = _call("log_file_make", ctypes.c_int32, *_steps, *_pieces)
-_file_size = _call("log_file_size", ctypes.c_int32, _sizes, *_pieces)
-_file_append = _call("log_file_append", ctypes.c_int32, *_steps, _sizes, *_pieces, *_leaves)
-_file_root = _call("log_file_root", ctypes.c_int32, ctypes.c_void_p, *_pieces, _size)
-_file_path = (ctypes.c_void_p, _size, _sizes, *_pieces, _size, _size)
+_file_make = _call("log_file_make", ctypes.c_int32, _steps, _pieces)
+_file_size = _call("log_file_size", ctypes.c_int32, _sizes, _pieces)
+_file_append = _call("log_file_append", ctypes.c_int32, _steps, _sizes, _pieces, *_leaves)
+_file_root = _call("log_file_root", ctypes.c_int32, ctypes.c_void_p, _pieces, _size)
+_file_path = (ctypes.c_void_p, _size, _sizes, _pieces, _size, _size)
 _file_inclusion = _call("log_file_inclusion", ctypes.c_int32, *_file_path)
 _file_consistency = _call("log_file_consistency", ctypes.c_int32, *_file_path)
 _file_check = _call("log_file_check", ctypes.c_int32, _bytes, _size)
@@ -41,7 +73,7 @@ class _File:
         self.read_only = read_only
         self.is_unknown = False
         self.process = os.getpid()
-        self.places = (_size * (2 * _PIECES))()
+        self.places = (_Piece * _PIECES)()
         self.path = os.path.abspath(path)
         try:
             self.file = _opened(path) if read_only else _locked(path, wait)
@@ -70,28 +102,27 @@ class _File:
 
     def asking(self, call: Callable[..., Any]) -> int:
         # the answer of a call, for which the pieces of the file are read that it asks for
-        file, places, count = self.number(), self.places, _size()
-        length, pieces, read = os.fstat(file).st_size, b"", 0
+        file, places = self.number(), self.places
+        length, data, read = os.fstat(file).st_size, b"", 0
         while True:
-            answer: int = call(places, _PIECES, ctypes.byref(count), length, pieces, len(pieces))
+            pieces = _Pieces(places, _PIECES, read, data, len(data), length)
+            answer: int = call(pieces)
             if answer != MORE:
                 return answer
-            asked = iter(places[2 * read : 2 * count.value])
-            pieces += b"".join([_read(file, wanted, place) for place, wanted in zip(asked, asked)])
-            read = count.value
+            data += b"".join([_read(file, piece.len, piece.at) for piece in places[read : pieces.places_len]])
+            read = pieces.places_len
 
     def steps_of(self, call: Callable[..., Any], room: int) -> "List[Tuple[int, memoryview]]":
         # the places and the bytes that a call hands over to be written
-        data, data_len, steps, steps_len = ctypes.create_string_buffer(room), _size(), (_size * (2 * _STEPS))(), _size()
-        answer = self.asking(
-            lambda *pieces: call(data, room, ctypes.byref(data_len), steps, _STEPS, ctypes.byref(steps_len), *pieces)
-        )
+        data, places = ctypes.create_string_buffer(room), (_Piece * _STEPS)()
+        steps = _Steps(places, _STEPS, 0, ctypes.addressof(data), room, 0)
+        answer = self.asking(lambda pieces: call(steps, pieces))
         if answer != 0:
             raise _refusal(answer)
         begin, whole, found = 0, memoryview(data), []
-        for place, count in zip(*[iter(steps[: 2 * steps_len.value])] * 2):
-            found.append((place, whole[begin : begin + count]))
-            begin += count
+        for step in places[: steps.places_len]:
+            found.append((step.at, whole[begin : begin + step.len]))
+            begin += step.len
         return found
 
     def carry_out(self, steps: "List[Tuple[int, memoryview]]") -> None:
@@ -112,7 +143,7 @@ class _File:
 
     def asked_size(self) -> int:
         size = _size()
-        answer = self.asking(lambda *pieces: _file_size(ctypes.byref(size), *pieces))
+        answer = self.asking(lambda pieces: _file_size(ctypes.byref(size), pieces))
         if answer != 0:
             raise _refusal(answer)
         return size.value
@@ -135,9 +166,7 @@ class _File:
             raise io.UnsupportedOperation("the log is open for reading only")
         self.keep_name()
         size = _size()
-        steps = self.steps_of(
-            lambda *of: _file_append(*of[:6], ctypes.byref(size), *of[6:], *flat), _file_room(flat[3])
-        )
+        steps = self.steps_of(lambda steps, pieces: _file_append(steps, ctypes.byref(size), pieces, *flat), _file_room(flat[3]))
         # until all is written, whatever cuts it off
         self.is_unknown = True
         try:
@@ -158,15 +187,13 @@ class _File:
             return True
 
     def root(self, root: "ctypes.Array[ctypes.c_char]", size: int) -> int:
-        return self.asking(lambda *pieces: _file_root(root, *pieces, size))
+        return self.asking(lambda pieces: _file_root(root, pieces, size))
 
     def inclusion(self, path: "ctypes.Array[ctypes.c_char]", count: _size, size: int, index: int) -> int:
-        return self.asking(lambda *pieces: _file_inclusion(path, len(path), ctypes.byref(count), *pieces, size, index))
+        return self.asking(lambda pieces: _file_inclusion(path, len(path), ctypes.byref(count), pieces, size, index))
 
     def consistency(self, proof: "ctypes.Array[ctypes.c_char]", count: _size, old_size: int, size: int) -> int:
-        return self.asking(
-            lambda *pieces: _file_consistency(proof, len(proof), ctypes.byref(count), *pieces, old_size, size)
-        )
+        return self.asking(lambda pieces: _file_consistency(proof, len(proof), ctypes.byref(count), pieces, old_size, size))
 
     def check(self) -> int:
         file = self.number()

@@ -439,10 +439,12 @@ class Map(MapVersion, MutableMapping[bytes, bytes]):
         # what was looked up for an earlier length is known, while the map has the root of then
         known = entered.had if entered.root == root else {}
         keys = [key for key in changed if key not in known]
-        tree, met = store.tree(root, keys, frozenset())
-        if _root_of(tree) != root:
-            raise DamagedMap("a node of the map is not the one that was stored")
-        found = {node[1:33] for node in met.values() if node[0] == 0}
+        found = set()
+        if keys:
+            tree, met = store.tree(root, keys, frozenset())
+            if _root_of(tree) != root:
+                raise DamagedMap("a node of the map is not the one that was stored")
+            found = {node[1:33] for node in met.values() if node[0] == 0}
         had = {**known, **{key: key in found for key in keys}}
         # not at once: between the two the answers would be taken for those of another root
         entered.root = b""

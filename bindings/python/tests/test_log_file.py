@@ -429,7 +429,7 @@ class InFile(unittest.TestCase):
                 os.truncate(self.path, length)
                 for each in (log, reader):
                     self.assertRaises(ValueError, each.root)
-                    self.assertRaises(ValueError, each.inclusion, 7, 3000)
+                    self.assertRaises(ValueError, each.inclusion, 7, size=3000)
                     self.assertRaises(ValueError, each.consistency, 7, 3000)
                     self.assertRaises(ValueError, each.check)
                 self.assertRaises(ValueError, log.append, entries[:1])

@@ -1,5 +1,6 @@
 //! A log in a file. The library says what is to be read of it and what is to be written, and this module does that.
 
+use crate::sys::{LogPieces, LogSteps, Piece};
 use crate::{sys, verdict, Digest, Flat, LogError, Refused};
 use std::fs::{self, File, OpenOptions};
 use std::io;
@@ -22,24 +23,16 @@ pub(crate) struct LogFile {
     is_unknown: bool,
 }
 
-// How many pieces and steps are enough, as the header has them, in numbers.
+// How many pieces and steps are enough, as the header has them.
 const PIECES: usize = 384;
 const STEPS: usize = 8;
 
 // How many bytes the file of a log without entries has.
 const HEAD: u64 = 96;
 
-// The pieces of a file that were read for a call.
-struct Pieces {
-    places: [[usize; 2]; PIECES],
-    count: usize,
-    file_len: usize,
-    bytes: Vec<u8>,
-}
-
 // What is to be written: the places and counts of steps, and their bytes.
 struct Plan {
-    steps: Vec<[usize; 2]>,
+    steps: Vec<Piece>,
     bytes: Vec<u8>,
 }
 
@@ -134,33 +127,40 @@ impl LogFile {
         })
     }
 
-    // Makes a call, for which the pieces of the file are read that it asks for.
-    fn asking(&self, mut call: impl FnMut(&mut Pieces) -> i32) -> Result<(), LogError> {
+    // Makes a call, for which the pieces of the file are read that it asks for. What it is handed may be written for as long as it says,
+    // and nothing else lends it.
+    fn asking(&self, mut call: impl FnMut(&mut LogPieces) -> i32) -> Result<(), LogError> {
         if self.is_unknown {
             return Err(io::Error::other(
                 "an append to the file of this log failed: open it again",
             )
             .into());
         }
-        let mut pieces = Pieces {
-            places: [[0; 2]; PIECES],
-            count: 0,
-            file_len: self.file.metadata()?.len() as usize,
-            bytes: Vec::new(),
-        };
+        let file_len = self.file.metadata()?.len() as usize;
+        let mut places = [Piece { at: 0, len: 0 }; PIECES];
+        let (mut read, mut bytes) = (0, Vec::new());
         loop {
-            let read = pieces.count;
+            let mut pieces = LogPieces {
+                places: places.as_mut_ptr(),
+                places_room: PIECES,
+                places_len: read,
+                bytes: bytes.as_ptr(),
+                bytes_len: bytes.len(),
+                file_len,
+            };
             match call(&mut pieces) {
                 0 => return Ok(()),
                 sys::MORE => {}
                 refused => return Err(Refused::of(refused).into()),
             }
-            for place in read..pieces.count {
-                let ([at, count], begin) = (pieces.places[place], pieces.bytes.len());
-                pieces.bytes.resize(begin + count, 0);
+            let asked = pieces.places_len;
+            for piece in &places[read..asked] {
+                let begin = bytes.len();
+                bytes.resize(begin + piece.len, 0);
                 self.file
-                    .read_exact_at(&mut pieces.bytes[begin..], at as u64)?;
+                    .read_exact_at(&mut bytes[begin..], piece.at as u64)?;
             }
+            read = asked;
         }
     }
 
@@ -168,48 +168,39 @@ impl LogFile {
     fn planned(
         &self,
         room: usize,
-        mut call: impl FnMut(&mut Plan, &mut [usize; 2], &mut Pieces) -> i32,
+        mut call: impl FnMut(&mut LogSteps, &mut LogPieces) -> i32,
     ) -> Result<Plan, LogError> {
         let mut plan = Plan {
-            steps: vec![[0; 2]; STEPS],
+            steps: vec![Piece { at: 0, len: 0 }; STEPS],
             bytes: vec![0; room],
         };
-        let mut counts = [0; 2];
-        self.asking(|pieces| call(&mut plan, &mut counts, pieces))?;
-        plan.bytes.truncate(counts[0]);
-        plan.steps.truncate(counts[1]);
+        let mut steps = LogSteps {
+            places: plan.steps.as_mut_ptr(),
+            places_room: STEPS,
+            places_len: 0,
+            bytes: plan.bytes.as_mut_ptr(),
+            bytes_room: room,
+            bytes_len: 0,
+        };
+        self.asking(|pieces| call(&mut steps, pieces))?;
+        plan.bytes.truncate(steps.bytes_len);
+        plan.steps.truncate(steps.places_len);
         Ok(plan)
     }
 
     fn made(&self) -> Result<Plan, LogError> {
-        self.planned(room(0), |plan, counts, pieces| {
-            let [bytes_len, steps_len] = counts;
-            // SAFETY: each pointer is that of a buffer of the length behind it, which nothing else lends.
-            unsafe {
-                sys::paxidore_log_file_make(
-                    plan.bytes.as_mut_ptr(),
-                    plan.bytes.len(),
-                    bytes_len,
-                    plan.steps.as_mut_ptr().cast(),
-                    STEPS,
-                    steps_len,
-                    pieces.places.as_mut_ptr().cast(),
-                    PIECES,
-                    &mut pieces.count,
-                    pieces.file_len,
-                    pieces.bytes.as_ptr(),
-                    pieces.bytes.len(),
-                )
-            }
+        // SAFETY: each pointer is that of a buffer of the length behind it, which nothing else lends.
+        self.planned(room(0), |steps, pieces| unsafe {
+            sys::paxidore_log_file_make(steps, pieces)
         })
     }
 
     // Each step is written and synced before the next one.
     fn carry_out(&self, plan: &Plan) -> io::Result<()> {
         let mut rest = &plan.bytes[..];
-        for [at, count] in &plan.steps {
-            let (part, behind) = rest.split_at(*count);
-            self.file.write_all_at(part, *at as u64)?;
+        for step in &plan.steps {
+            let (part, behind) = rest.split_at(step.len);
+            self.file.write_all_at(part, step.at as u64)?;
             self.file.sync_all()?;
             rest = behind;
         }
@@ -219,17 +210,7 @@ impl LogFile {
     pub(crate) fn size(&self) -> Result<usize, LogError> {
         let mut size = 0;
         // SAFETY: as in `made`.
-        self.asking(|pieces| unsafe {
-            sys::paxidore_log_file_size(
-                &mut size,
-                pieces.places.as_mut_ptr().cast(),
-                PIECES,
-                &mut pieces.count,
-                pieces.file_len,
-                pieces.bytes.as_ptr(),
-                pieces.bytes.len(),
-            )
-        })?;
+        self.asking(|pieces| unsafe { sys::paxidore_log_file_size(&mut size, pieces) })?;
         Ok(size)
     }
 
@@ -255,30 +236,17 @@ impl LogFile {
         }
         self.keep_name()?;
         let mut size = own;
-        let plan = self.planned(room(flat.lengths.len()), |plan, counts, pieces| {
-            let [bytes_len, steps_len] = counts;
-            // SAFETY: as in `made`.
-            unsafe {
-                sys::paxidore_log_file_append(
-                    plan.bytes.as_mut_ptr(),
-                    plan.bytes.len(),
-                    bytes_len,
-                    plan.steps.as_mut_ptr().cast(),
-                    STEPS,
-                    steps_len,
-                    &mut size,
-                    pieces.places.as_mut_ptr().cast(),
-                    PIECES,
-                    &mut pieces.count,
-                    pieces.file_len,
-                    pieces.bytes.as_ptr(),
-                    pieces.bytes.len(),
-                    flat.bytes.as_ptr(),
-                    flat.bytes.len(),
-                    flat.lengths.as_ptr(),
-                    flat.lengths.len(),
-                )
-            }
+        // SAFETY: as in `made`.
+        let plan = self.planned(room(flat.lengths.len()), |steps, pieces| unsafe {
+            sys::paxidore_log_file_append(
+                steps,
+                &mut size,
+                pieces,
+                flat.bytes.as_ptr(),
+                flat.bytes.len(),
+                flat.lengths.as_ptr(),
+                flat.lengths.len(),
+            )
         })?;
         if let Err(error) = self.carry_out(&plan) {
             // what was written is no part of the log, where the file has the size that it had
@@ -293,16 +261,7 @@ impl LogFile {
         let mut root = [0; 32];
         // SAFETY: as in `made`.
         self.asking(|pieces| unsafe {
-            sys::paxidore_log_file_root(
-                root.as_mut_ptr(),
-                pieces.places.as_mut_ptr().cast(),
-                PIECES,
-                &mut pieces.count,
-                pieces.file_len,
-                pieces.bytes.as_ptr(),
-                pieces.bytes.len(),
-                size,
-            )
+            sys::paxidore_log_file_root(root.as_mut_ptr(), pieces, size)
         })?;
         Ok(root)
     }
@@ -320,12 +279,7 @@ impl LogFile {
                 path.as_mut_ptr(),
                 room,
                 &mut count,
-                pieces.places.as_mut_ptr().cast(),
-                PIECES,
-                &mut pieces.count,
-                pieces.file_len,
-                pieces.bytes.as_ptr(),
-                pieces.bytes.len(),
+                pieces,
                 size,
                 index,
             )
@@ -347,12 +301,7 @@ impl LogFile {
                 proof.as_mut_ptr(),
                 room,
                 &mut count,
-                pieces.places.as_mut_ptr().cast(),
-                PIECES,
-                &mut pieces.count,
-                pieces.file_len,
-                pieces.bytes.as_ptr(),
-                pieces.bytes.len(),
+                pieces,
                 old_size,
                 size,
             )

@@ -354,71 +354,56 @@ extern "C" {
 // The answer that pieces of a file are to be read first.
 pub const MORE: i32 = -10;
 
-// Logs in files. `places` and `steps` have two numbers for each piece and step, and lengths of them count pieces and steps.
+/// Some bytes of a file: where they begin, and how many they are.
+#[repr(C)]
+#[derive(Clone, Copy)]
+pub struct Piece {
+    pub at: usize,
+    pub len: usize,
+}
+
+/// What was read of a log's file, or is to be read.
+#[repr(C)]
+pub struct LogPieces {
+    pub places: *mut Piece,
+    pub places_room: usize,
+    pub places_len: usize,
+    pub bytes: *const u8,
+    pub bytes_len: usize,
+    pub file_len: usize,
+}
+
+/// What is to be written to a log's file.
+#[repr(C)]
+pub struct LogSteps {
+    pub places: *mut Piece,
+    pub places_room: usize,
+    pub places_len: usize,
+    pub bytes: *mut u8,
+    pub bytes_room: usize,
+    pub bytes_len: usize,
+}
+
+// Logs in files.
 extern "C" {
     pub fn paxidore_log_file_room(count: usize) -> usize;
-    pub fn paxidore_log_file_make(
-        bytes: *mut u8,
-        bytes_room: usize,
-        bytes_len: *mut usize,
-        steps: *mut usize,
-        steps_room: usize,
-        steps_len: *mut usize,
-        places: *mut usize,
-        places_room: usize,
-        places_len: *mut usize,
-        file_len: usize,
-        pieces: *const u8,
-        pieces_len: usize,
-    ) -> i32;
-    pub fn paxidore_log_file_size(
-        size: *mut usize,
-        places: *mut usize,
-        places_room: usize,
-        places_len: *mut usize,
-        file_len: usize,
-        pieces: *const u8,
-        pieces_len: usize,
-    ) -> i32;
+    pub fn paxidore_log_file_make(steps: *mut LogSteps, pieces: *mut LogPieces) -> i32;
+    pub fn paxidore_log_file_size(size: *mut usize, pieces: *mut LogPieces) -> i32;
     pub fn paxidore_log_file_append(
-        bytes: *mut u8,
-        bytes_room: usize,
-        bytes_len: *mut usize,
-        steps: *mut usize,
-        steps_room: usize,
-        steps_len: *mut usize,
+        steps: *mut LogSteps,
         size: *mut usize,
-        places: *mut usize,
-        places_room: usize,
-        places_len: *mut usize,
-        file_len: usize,
-        pieces: *const u8,
-        pieces_len: usize,
+        pieces: *mut LogPieces,
         entries: *const u8,
         entries_len: usize,
         lengths: *const usize,
         count: usize,
     ) -> i32;
-    pub fn paxidore_log_file_root(
-        root: *mut u8,
-        places: *mut usize,
-        places_room: usize,
-        places_len: *mut usize,
-        file_len: usize,
-        pieces: *const u8,
-        pieces_len: usize,
-        size: usize,
-    ) -> i32;
+    pub fn paxidore_log_file_root(root: *mut u8, pieces: *mut LogPieces, size: usize) -> i32;
     pub fn paxidore_log_file_inclusion(
         path: *mut u8,
         path_room: usize,
         path_len: *mut usize,
-        places: *mut usize,
-        places_room: usize,
-        places_len: *mut usize,
-        file_len: usize,
-        pieces: *const u8,
-        pieces_len: usize,
+        pieces: *mut LogPieces,
         size: usize,
         index: usize,
     ) -> i32;
@@ -426,12 +411,7 @@ extern "C" {
         proof: *mut u8,
         proof_room: usize,
         proof_len: *mut usize,
-        places: *mut usize,
-        places_room: usize,
-        places_len: *mut usize,
-        file_len: usize,
-        pieces: *const u8,
-        pieces_len: usize,
+        pieces: *mut LogPieces,
         old_size: usize,
         size: usize,
     ) -> i32;

@@ -219,8 +219,5 @@ fn others() {
     // the test of the bindings names the build that has to run
     let build = std::env::var("PAXIDORE_BUILD");
     assert_eq!(cpu(), build.as_deref().unwrap_or(cpu()));
-    assert_eq!(
-        Refused::Size.to_string(),
-        "no tree or log has this size"
-    );
+    assert_eq!(Refused::Size.to_string(), "no tree or log has this size");
 }

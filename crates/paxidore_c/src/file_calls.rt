@@ -45,6 +45,32 @@ use log_file::file::log_in;
 use std::alloc::Global;
 use std::marker::Brand;
 
+/// What a caller has read of a log's file, or is to read.
+#[repr(C)]
+pub struct Pieces<'a> {
+    /// Where each piece begins, and how many bytes it has; behind them room for more.
+    pub places: &'a mut [[usize; 2]],
+    /// How many pieces there are.
+    pub places_len: usize,
+    /// The bytes of the pieces that were read, one behind the other.
+    pub bytes: &'a [u8],
+    /// How many bytes the file has.
+    pub file_len: usize,
+}
+
+/// What a caller is to write to a log's file.
+#[repr(C)]
+pub struct Steps<'a> {
+    /// Where each step begins, and how many bytes it writes.
+    pub places: &'a mut [[usize; 2]],
+    /// How many steps there are.
+    pub places_len: usize,
+    /// The bytes of the steps, one behind the other.
+    pub bytes: &'a mut [u8],
+    /// How many bytes they are.
+    pub bytes_len: usize,
+}
+
 // The code of a call that was done, or was not.
 fn code_of(done: Result<(), NotDone>) -> i32
     ensures code { result ≡ call_code done }
@@ -106,41 +132,52 @@ pub extern "C" fn paxidore_log_file_room(count: usize) -> usize
 #[unsafe(no_mangle)]
 pub extern "C" fn paxidore_log_file_make(
     alloc: Global,
-    bytes: &mut [u8],
-    bytes_len: &mut usize,
-    steps: &mut [[usize; 2]],
-    steps_len: &mut usize,
-    places: &mut [[usize; 2]],
-    places_len: &mut usize,
-    file_len: usize,
-    pieces: &[u8],
+    steps: &mut Steps,
+    pieces: &mut Pieces,
 ) -> i32
     ghost file: { List ℕ }
-    ensures first { AsksFirst (result ≡ negsuc 9) file_len places_len.old places_len.new
-        places.old places.new }
+    ensures first { AsksFirst (result ≡ negsuc 9) pieces.old.file_len pieces.old.places_len
+        pieces.new.places_len pieces.old.places.now pieces.new.places.now }
 
     // Once all is carried out, the file of a log is as it is, ..
-    ensures same { HasRead file file_len places_len.old places.old pieces.now
-        → (leaves : List Digest) → IsLogFile leaves file → result ≡ pos 0
-        → Carries (λ left. left ≡ file) file bytes.old bytes.new bytes_len.new
-        steps.old steps.new steps_len.new }
+    ensures same { HasRead file pieces.old.file_len pieces.old.places_len pieces.old.places.now
+        pieces.old.bytes.now → (leaves : List Digest) → IsLogFile leaves file → result ≡ pos 0
+        → Carries (λ left. left ≡ file) file
+        steps.old.bytes.now steps.new.bytes.now steps.new.bytes_len
+        steps.old.places.now steps.new.places.now steps.new.places_len }
 
     // .. and one that has no byte has the log of no entries, and stays it if one of its slots is lost.
-    ensures made { HasRead file file_len places_len.old places.old pieces.now → file ≡ []
-        → result ≡ pos 0
-        → Carries (IsSettled []) file bytes.old bytes.new bytes_len.new
-        steps.old steps.new steps_len.new }
+    ensures made { HasRead file pieces.old.file_len pieces.old.places_len pieces.old.places.now
+        pieces.old.bytes.now → file ≡ [] → result ≡ pos 0
+        → Carries (IsSettled []) file steps.old.bytes.now steps.new.bytes.now steps.new.bytes_len
+        steps.old.places.now steps.new.places.now steps.new.places_len }
 
     // What is neither empty nor a part of that head stays as it is.
-    ensures others { HasRead file file_len places_len.old places.old pieces.now → result ≡ pos 0
-        → IsPartOf new_head file ⊎ Carries (λ left. left ≡ file) file bytes.old bytes.new
-        bytes_len.new steps.old steps.new steps_len.new }
+    ensures others { HasRead file pieces.old.file_len pieces.old.places_len pieces.old.places.now
+        pieces.old.bytes.now → result ≡ pos 0 → IsPartOf new_head file
+        ⊎ Carries (λ left. left ≡ file) file
+        steps.old.bytes.now steps.new.bytes.now steps.new.bytes_len
+        steps.old.places.now steps.new.places.now steps.new.places_len }
     ensures refused { TellsWhy IsPlainReason result }
-    ensures left { result ≢ pos 0 → LeavesSteps (result ≡ refusal_code Room) bytes.old bytes.new
-        bytes_len.old bytes_len.new steps.old steps.new steps_len.old steps_len.new }
+    ensures left { result ≢ pos 0 → LeavesSteps (result ≡ refusal_code Room) steps.old.bytes.now
+        steps.new.bytes.now steps.old.bytes_len steps.new.bytes_len steps.old.places.now
+        steps.new.places.now steps.old.places_len steps.new.places_len }
+    ensures lent_steps { (steps.new.places.ghost_name ≡ steps.old.places.ghost_name)
+        × (steps.new.bytes.ghost_name ≡ steps.old.bytes.ghost_name) }
+    ensures lent { (pieces.new.places.ghost_name ≡ pieces.old.places.ghost_name)
+        × (pieces.new.bytes.now ≡ pieces.old.bytes.now)
+        × (pieces.new.file_len ≡ pieces.old.file_len) }
 {
     code_of(made_in(
-        alloc, bytes, bytes_len, steps, steps_len, places, places_len, file_len, pieces,
+        alloc,
+        steps.bytes,
+        &mut steps.bytes_len,
+        steps.places,
+        &mut steps.places_len,
+        pieces.places,
+        &mut pieces.places_len,
+        pieces.file_len,
+        pieces.bytes,
     ))
 }
 
@@ -172,22 +209,29 @@ fn size_in(
 pub extern "C" fn paxidore_log_file_size(
     alloc: Global,
     size: &mut usize,
-    places: &mut [[usize; 2]],
-    places_len: &mut usize,
-    file_len: usize,
-    pieces: &[u8],
+    pieces: &mut Pieces,
 ) -> i32
     ghost file: { List ℕ }
-    ensures first { AsksFirst (result ≡ negsuc 9) file_len places_len.old places_len.new
-        places.old places.new }
-    ensures size { HasRead file file_len places_len.old places.old pieces.now
-        → (leaves : List Digest) → IsLogFile leaves file → result ≡ pos 0
+    ensures first { AsksFirst (result ≡ negsuc 9) pieces.old.file_len pieces.old.places_len
+        pieces.new.places_len pieces.old.places.now pieces.new.places.now }
+    ensures size { HasRead file pieces.old.file_len pieces.old.places_len pieces.old.places.now
+        pieces.old.bytes.now → (leaves : List Digest) → IsLogFile leaves file → result ≡ pos 0
         → size.new ≡ length leaves }
-    ensures refused { HasRead file file_len places_len.old places.old pieces.now
-        → TellsWhy (IsReason file (log_size file)) result }
+    ensures refused { HasRead file pieces.old.file_len pieces.old.places_len pieces.old.places.now
+        pieces.old.bytes.now → TellsWhy (IsReason file (log_size file)) result }
     ensures size_kept { result ≢ pos 0 → size.new ≡ size.old }
+    ensures lent { (pieces.new.places.ghost_name ≡ pieces.old.places.ghost_name)
+        × (pieces.new.bytes.now ≡ pieces.old.bytes.now)
+        × (pieces.new.file_len ≡ pieces.old.file_len) }
 {
-    code_of(size_in(alloc, size, places, places_len, file_len, pieces))
+    code_of(size_in(
+        alloc,
+        size,
+        pieces.places,
+        &mut pieces.places_len,
+        pieces.file_len,
+        pieces.bytes,
+    ))
 }
 
 fn root_in(
@@ -227,23 +271,31 @@ fn root_in(
 pub extern "C" fn paxidore_log_file_root(
     alloc: Global,
     root: &mut [u8; 32],
-    places: &mut [[usize; 2]],
-    places_len: &mut usize,
-    file_len: usize,
-    pieces: &[u8],
+    pieces: &mut Pieces,
     size: usize,
 ) -> i32
     ghost file: { List ℕ }
-    ensures first { AsksFirst (result ≡ negsuc 9) file_len places_len.old places_len.new
-        places.old places.new }
-    ensures root { HasRead file file_len places_len.old places.old pieces.now
-        → (leaves : List Digest) → IsLogFile leaves file → result ≡ pos 0
+    ensures first { AsksFirst (result ≡ negsuc 9) pieces.old.file_len pieces.old.places_len
+        pieces.new.places_len pieces.old.places.now pieces.new.places.now }
+    ensures root { HasRead file pieces.old.file_len pieces.old.places_len pieces.old.places.now
+        pieces.old.bytes.now → (leaves : List Digest) → IsLogFile leaves file → result ≡ pos 0
         → (size ≤ length leaves) × (log_root size leaves ≡ Ok root.new) }
-    ensures refused { HasRead file file_len places_len.old places.old pieces.now
-        → TellsWhy (IsReason file (of_first file (Some size) Ok)) result }
+    ensures refused { HasRead file pieces.old.file_len pieces.old.places_len pieces.old.places.now
+        pieces.old.bytes.now → TellsWhy (IsReason file (of_first file (Some size) Ok)) result }
     ensures root_kept { result ≢ pos 0 → root.new ≡ root.old }
+    ensures lent { (pieces.new.places.ghost_name ≡ pieces.old.places.ghost_name)
+        × (pieces.new.bytes.now ≡ pieces.old.bytes.now)
+        × (pieces.new.file_len ≡ pieces.old.file_len) }
 {
-    code_of(root_in(alloc, root, places, places_len, file_len, pieces, size))
+    code_of(root_in(
+        alloc,
+        root,
+        pieces.places,
+        &mut pieces.places_len,
+        pieces.file_len,
+        pieces.bytes,
+        size,
+    ))
 }
 
 // What is to be read first for so many entries.
@@ -307,44 +359,58 @@ fn append_in(
 #[unsafe(no_mangle)]
 pub extern "C" fn paxidore_log_file_append(
     alloc: Global,
-    bytes: &mut [u8],
-    bytes_len: &mut usize,
-    steps: &mut [[usize; 2]],
-    steps_len: &mut usize,
+    steps: &mut Steps,
     size: &mut usize,
-    places: &mut [[usize; 2]],
-    places_len: &mut usize,
-    file_len: usize,
-    pieces: &[u8],
+    pieces: &mut Pieces,
     entries: &[u8],
     lengths: &[usize],
 ) -> i32
     ghost file: { List ℕ }
-    ensures first { AsksFirst (result ≡ negsuc 9) file_len places_len.old places_len.new
-        places.old places.new }
+    ensures first { AsksFirst (result ≡ negsuc 9) pieces.old.file_len pieces.old.places_len
+        pieces.new.places_len pieces.old.places.now pieces.new.places.now }
 
     // Of entries, the steps append the hashes to the log.
-    ensures grows { HasRead file file_len places_len.old places.old pieces.now
-        → (leaves : List Digest) → IsLogFile leaves file → 0 < length lengths.now
-        → result ≡ pos 0
+    ensures grows { HasRead file pieces.old.file_len pieces.old.places_len pieces.old.places.now
+        pieces.old.bytes.now → (leaves : List Digest) → IsLogFile leaves file
+        → 0 < length lengths.now → result ≡ pos 0
         → (xs : List (List ℕ)) × (leaves_in (parts_by entries.now lengths.now) ≡ Ok xs)
-        × Grows leaves (map entry_hash xs) file bytes.old bytes.new bytes_len.new
-        steps.old steps.new steps_len.new size.new }
+        × Grows leaves (map entry_hash xs) file
+        steps.old.bytes.now steps.new.bytes.now steps.new.bytes_len
+        steps.old.places.now steps.new.places.now steps.new.places_len
+        size.new }
 
     // For none there is no step.
-    ensures none { HasRead file file_len places_len.old places.old pieces.now
-        → (leaves : List Digest) → IsLogFile leaves file → length lengths.now ≡ 0
-        → result ≡ pos 0 → (size.new ≡ length leaves)
-        × IsHanded [] bytes.old bytes.new bytes_len.new steps.old steps.new steps_len.new }
-    ensures refused { HasRead file file_len places_len.old places.old pieces.now
+    ensures none { HasRead file pieces.old.file_len pieces.old.places_len pieces.old.places.now
+        pieces.old.bytes.now → (leaves : List Digest) → IsLogFile leaves file
+        → length lengths.now ≡ 0 → result ≡ pos 0 → (size.new ≡ length leaves)
+        × IsHanded [] steps.old.bytes.now steps.new.bytes.now steps.new.bytes_len
+        steps.old.places.now steps.new.places.now steps.new.places_len }
+    ensures refused { HasRead file pieces.old.file_len pieces.old.places_len pieces.old.places.now
+        pieces.old.bytes.now
         → TellsWhy (IsReason file (appended_size file (length lengths.now))) result }
-    ensures left { result ≢ pos 0 → LeavesSteps (result ≡ refusal_code Room) bytes.old bytes.new
-        bytes_len.old bytes_len.new steps.old steps.new steps_len.old steps_len.new }
+    ensures left { result ≢ pos 0 → LeavesSteps (result ≡ refusal_code Room) steps.old.bytes.now
+        steps.new.bytes.now steps.old.bytes_len steps.new.bytes_len steps.old.places.now
+        steps.new.places.now steps.old.places_len steps.new.places_len }
     ensures size_kept { result ≢ pos 0 → size.new ≡ size.old }
+    ensures lent_steps { (steps.new.places.ghost_name ≡ steps.old.places.ghost_name)
+        × (steps.new.bytes.ghost_name ≡ steps.old.bytes.ghost_name) }
+    ensures lent { (pieces.new.places.ghost_name ≡ pieces.old.places.ghost_name)
+        × (pieces.new.bytes.now ≡ pieces.old.bytes.now)
+        × (pieces.new.file_len ≡ pieces.old.file_len) }
 {
     code_of(append_in(
-        alloc, bytes, bytes_len, steps, steps_len, size, places, places_len, file_len, pieces,
-        entries, lengths,
+        alloc,
+        steps.bytes,
+        &mut steps.bytes_len,
+        steps.places,
+        &mut steps.places_len,
+        size,
+        pieces.places,
+        &mut pieces.places_len,
+        pieces.file_len,
+        pieces.bytes,
+        entries,
+        lengths,
     ))
 }
 

@@ -13,9 +13,9 @@ ghost use Rattle.paxidore_c.specs.declared.refused.Refused.TheVariants.{Room};
 
 use crate::file_calls::answers::{path_of, proof_of};
 use crate::file_calls::asked::{Asked, ask};
-use crate::file_calls::code_of;
 use crate::file_calls::handed::hand_over_digests;
 use crate::file_calls::not_done::NotDone;
+use crate::file_calls::{Pieces, code_of};
 use std::alloc::Global;
 use std::marker::Brand;
 
@@ -61,33 +61,44 @@ pub extern "C" fn paxidore_log_file_inclusion(
     alloc: Global,
     path: &mut [u8],
     path_len: &mut usize,
-    places: &mut [[usize; 2]],
-    places_len: &mut usize,
-    file_len: usize,
-    pieces: &[u8],
+    pieces: &mut Pieces,
     size: usize,
     index: usize,
 ) -> i32
     ghost file: { List ℕ }
-    ensures first { AsksFirst (result ≡ negsuc 9) file_len places_len.old places_len.new
-        places.old places.new }
-    ensures path { HasRead file file_len places_len.old places.old pieces.now
-        → (leaves : List Digest) → IsLogFile leaves file → result ≡ pos 0
-        → StandsInFront (inclusion_bytes size index leaves) path.old path.new path_len.new }
+    ensures first { AsksFirst (result ≡ negsuc 9) pieces.old.file_len pieces.old.places_len
+        pieces.new.places_len pieces.old.places.now pieces.new.places.now }
+    ensures path { HasRead file pieces.old.file_len pieces.old.places_len pieces.old.places.now
+        pieces.old.bytes.now → (leaves : List Digest) → IsLogFile leaves file → result ≡ pos 0
+        → StandsInFront (inclusion_bytes size index leaves) path.old path.new
+        path_len.new }
 
     // Where there is room for places, the buffer lacks it.
-    ensures room_needed { HasRead file file_len places_len.old places.old pieces.now
-        → (leaves : List Digest) → IsLogFile leaves file → places_len.old < length places.old
-        → result ≡ refusal_code Room
+    ensures room_needed { HasRead file pieces.old.file_len pieces.old.places_len
+        pieces.old.places.now
+        pieces.old.bytes.now → (leaves : List Digest) → IsLogFile leaves file
+        → pieces.old.places_len < length pieces.old.places.now → result ≡ refusal_code Room
         → IfOk (inclusion_bytes size index leaves) (λ bytes. path_len.new ≡ length bytes) }
-    ensures refused { HasRead file file_len places_len.old places.old pieces.now
+    ensures refused { HasRead file pieces.old.file_len pieces.old.places_len pieces.old.places.now
+        pieces.old.bytes.now
         → TellsWhy (IsReason file (index_outcome file (Some size) index)) result }
     ensures kept { result ≢ pos 0 → path.new ≡ path.old }
     ensures uncounted { result ≢ pos 0 → result ≢ refusal_code Room
         → path_len.new ≡ path_len.old }
+    ensures lent { (pieces.new.places.ghost_name ≡ pieces.old.places.ghost_name)
+        × (pieces.new.bytes.now ≡ pieces.old.bytes.now)
+        × (pieces.new.file_len ≡ pieces.old.file_len) }
 {
     code_of(inclusion_in(
-        alloc, path, path_len, places, places_len, file_len, pieces, index, size,
+        alloc,
+        path,
+        path_len,
+        pieces.places,
+        &mut pieces.places_len,
+        pieces.file_len,
+        pieces.bytes,
+        index,
+        size,
     ))
 }
 
@@ -134,33 +145,43 @@ pub extern "C" fn paxidore_log_file_consistency(
     alloc: Global,
     proof: &mut [u8],
     proof_len: &mut usize,
-    places: &mut [[usize; 2]],
-    places_len: &mut usize,
-    file_len: usize,
-    pieces: &[u8],
+    pieces: &mut Pieces,
     old_size: usize,
     size: usize,
 ) -> i32
     ghost file: { List ℕ }
-    ensures first { AsksFirst (result ≡ negsuc 9) file_len places_len.old places_len.new
-        places.old places.new }
-    ensures proof { HasRead file file_len places_len.old places.old pieces.now
-        → (leaves : List Digest) → IsLogFile leaves file → result ≡ pos 0
+    ensures first { AsksFirst (result ≡ negsuc 9) pieces.old.file_len pieces.old.places_len
+        pieces.new.places_len pieces.old.places.now pieces.new.places.now }
+    ensures proof { HasRead file pieces.old.file_len pieces.old.places_len pieces.old.places.now
+        pieces.old.bytes.now → (leaves : List Digest) → IsLogFile leaves file → result ≡ pos 0
         → StandsInFront (consistency_bytes old_size size leaves) proof.old proof.new
         proof_len.new }
 
     // Where there is room for places, the buffer lacks it.
-    ensures room_needed { HasRead file file_len places_len.old places.old pieces.now
-        → (leaves : List Digest) → IsLogFile leaves file → places_len.old < length places.old
-        → result ≡ refusal_code Room
+    ensures room_needed { HasRead file pieces.old.file_len pieces.old.places_len
+        pieces.old.places.now
+        pieces.old.bytes.now → (leaves : List Digest) → IsLogFile leaves file
+        → pieces.old.places_len < length pieces.old.places.now → result ≡ refusal_code Room
         → IfOk (consistency_bytes old_size size leaves) (λ bytes. proof_len.new ≡ length bytes) }
-    ensures refused { HasRead file file_len places_len.old places.old pieces.now
+    ensures refused { HasRead file pieces.old.file_len pieces.old.places_len pieces.old.places.now
+        pieces.old.bytes.now
         → TellsWhy (IsReason file (older_outcome file (Some size) old_size)) result }
     ensures kept { result ≢ pos 0 → proof.new ≡ proof.old }
     ensures uncounted { result ≢ pos 0 → result ≢ refusal_code Room
         → proof_len.new ≡ proof_len.old }
+    ensures lent { (pieces.new.places.ghost_name ≡ pieces.old.places.ghost_name)
+        × (pieces.new.bytes.now ≡ pieces.old.bytes.now)
+        × (pieces.new.file_len ≡ pieces.old.file_len) }
 {
     code_of(consistency_in(
-        alloc, proof, proof_len, places, places_len, file_len, pieces, old_size, size,
+        alloc,
+        proof,
+        proof_len,
+        pieces.places,
+        &mut pieces.places_len,
+        pieces.file_len,
+        pieces.bytes,
+        old_size,
+        size,
     ))
 }

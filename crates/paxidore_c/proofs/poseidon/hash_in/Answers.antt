@@ -1,4 +1,4 @@
-use Rattle.std.proofs.Common.{◌≡◌, Err, inl, inr, ap, sym, ◌∙◌}
+use Rattle.std.proofs.Common.{Err, inl, inr, ap, sym, ◌∙◌}
 use Rattle.paxidore_c.specs.Poseidon.{hashing_refused, refused_inputs}
 use Rattle.paxidore_c.proofs.poseidon.hash_in.Goals as goal
 
