@@ -69,9 +69,8 @@ def files_below(folder):
 
 
 def is_audited(folder, verifier, size, top, kept=0):
-    """Asks for an audit, which says how many entries are kept if not all are."""
-    lacking = "paxlog: %s: the bytes of the first %d entries are kept\n" % (folder, kept) if kept < size else ""
-    return ask("audit", folder, verifier) == (0, "%d %s\n" % (size, top.hex()), lacking)
+    """Asks for an audit, which says how many entries are kept."""
+    return ask("audit", folder, verifier) == (0, "%d %s\nkept %d\n" % (size, top.hex(), kept), "")
 
 
 def keys(room, notes):
@@ -298,9 +297,10 @@ def is_killed_within(room, verifier, rows):
         ran.send_signal(signal.SIGKILL)
         ran.wait()
         if os.path.exists(site + "/checkpoint"):
-            now = ask("audit", site, verifier)
-            check("killed: the folder of before or after", now[0] == 0 and (now[1] == said or now[1] in sizes))
-            check("killed: it is followed", ask("follow", site, verifier, room + "/killed-state")[:2] == now[:2])
+            status, facts, _ = ask("audit", site, verifier)
+            head = facts.removesuffix("kept 0\n")
+            check("killed: the folder of before or after", status == 0 and head != facts and (head == said or head in sizes))
+            check("killed: it is followed", ask("follow", site, verifier, room + "/killed-state")[:2] == (status, head))
         if DRAWS.randrange(2):
             check("it is finished", ask("tiles", log, site, "--key", room + "/key") == (0, said, ""))
         sizes[said] = True

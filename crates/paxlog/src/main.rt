@@ -25,15 +25,15 @@ use crate::complaints::complain;
 use crate::followers::Source;
 use crate::picture::{image_of, picture_text};
 use crate::saying::{
-    say, say_audited, say_checkpoint, say_head, say_proof, say_receipt, say_root, say_verdict,
-    tell_recovered,
+    say, say_audited, say_checkpoint, say_head, say_proof, say_receipt, say_recovered, say_root,
+    say_verdict,
 };
 use crate::stop::{StopAt, placed};
 use crate::words::{folder_name, name_of_word, origin_of, words_behind_name};
 use log_checkpoints::write_receipt;
 use log_file::fault::Fault;
 use log_store::InclusionProof;
-use paxlog_run::replies::{line_of, line_of_root};
+use paxlog_run::replies::line_of;
 use paxlog_run::request::{
     Continuation, Inclusion, Keyed, Misuse, Request, Site, Word, bytes_at, request_of_words,
 };
@@ -111,20 +111,17 @@ fn recover_command(
     new: Option<Word>,
 ) -> Result<u8, StopAt> {
     let log = name_of_word(words, log)?;
-    let (new, found) = match new {
+    let (is_made, found) = match new {
         Some(new) => {
             let new = name_of_word(words, new)?;
-            (Some(new), store::recover_file(rt, log, new)?)
+            (true, store::recover_file(rt, log, new)?)
         }
         None => (
-            None,
+            false,
             placed(log.place, store::recoverable_of_file(rt, log.text))?,
         ),
     };
-    // before anything is told: memory may be refused
-    let line = line_of_root(rt.alloc(), found.size, &found.root)?;
-    tell_recovered(rt, words, log, new, &found);
-    say(rt, &line)
+    say_recovered(rt, words, log, is_made, &found)
 }
 
 // Whether an entry is one of a log with a root, by its proof.
@@ -252,8 +249,8 @@ fn source_of<'a>(
 // Whether the tiles of a folder are those of its checkpoint.
 fn audit_command(rt: &HostRuntime, words: &[Vec<u8>], site: &Site) -> Result<u8, StopAt> {
     let from = source_of(rt, words, site)?;
-    match placed(from.folder.place, followers::audit_folder(rt, &from))? {
-        Some(found) => say_audited(rt, words, from.folder, &found),
+    match placed(from.folder.place, followers::audit(rt, &from))? {
+        Some(found) => say_audited(rt, &found),
         None => say_verdict(rt, false),
     }
 }

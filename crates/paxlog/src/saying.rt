@@ -105,44 +105,39 @@ pub fn say_receipt(
     }
 }
 
-/// Writes what an audit of a folder found: on standard error, of how many entries the bytes are kept, if not of all.
-pub fn say_audited(
-    rt: &HostRuntime,
-    words: &[Vec<u8>],
-    folder: Name,
-    found: &Audited,
-) -> Result<u8, StopAt> {
-    if found.kept < found.head.size {
-        begin(rt, words, Some(folder.place));
-        let _ = eprintln!(rt; "the bytes of the first {} entries are kept", found.kept);
-    }
-    say_head(rt, &found.head)
+/// Writes what an audit of a folder found, a line for each fact: the size and the root, and of how many entries, from the first one on,
+/// the bytes are kept.
+pub fn say_audited(rt: &HostRuntime, found: &Audited) -> Result<u8, StopAt> {
+    let mut lines = line_of_root(rt.alloc(), found.head.size, &found.head.root)?;
+    let kept = found.kept;
+    lines.extend_from_slice(format!(in rt.alloc(); "kept {kept}\n")?.as_bytes())?;
+    say(rt, &lines)
 }
 
-/// Says on standard error what of a file can be recovered, and what was done.
-pub fn tell_recovered(
+/// Writes what of a file can be recovered, a line for each fact: the size and the root of what is sound, the size that the head states,
+/// and how many entries a new log was made of. Where none was made, it says so on standard error.
+pub fn say_recovered(
     rt: &HostRuntime,
     words: &[Vec<u8>],
     log: Name,
-    new: Option<Name>,
+    is_made: bool,
     found: &Recovered,
-) {
-    begin(rt, words, Some(log.place));
-    let _ = match found.stated {
-        None => eprint!(rt; "no slot of its head is whole; "),
-        Some(size) => eprint!(rt; "its head says {size} entries; "),
-    };
-    let _ = eprintln!(rt; "the digests of the first {} are sound", found.size);
-    match new {
-        Some(new) => {
-            begin(rt, words, Some(new.place));
-            let _ = eprintln!(rt; "a new log of {} entries was made", found.size);
-        }
-        None => {
-            begin(rt, words, Some(log.place));
-            let _ = eprintln!(rt;
-                "nothing was changed: with NEW behind LOG a new log is made of these entries"
-            );
+) -> Result<u8, StopAt> {
+    let size = found.size;
+    let mut lines = line_of_root(rt.alloc(), size, &found.root)?;
+    match found.stated {
+        None => lines.extend_from_slice(b"stated none\n")?,
+        Some(stated) => {
+            lines.extend_from_slice(format!(in rt.alloc(); "stated {stated}\n")?.as_bytes())?;
         }
     }
+    if is_made {
+        lines.extend_from_slice(format!(in rt.alloc(); "made {size}\n")?.as_bytes())?;
+    } else {
+        begin(rt, words, Some(log.place));
+        let _ = eprintln!(rt;
+            "nothing was changed: with NEW behind LOG a new log is made of these entries"
+        );
+    }
+    say(rt, &lines)
 }
