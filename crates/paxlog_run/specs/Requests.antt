@@ -43,11 +43,11 @@ origin_at words place = if nat_lt place (length words) then Some (typed_at place
 
 -- the number at a place of the words
 abbrev pub number_word_at : List (List ℕ) → ℕ → Read ℕ
-number_word_at words place = or_misuse (NoNumber place) (number_of (get_or words place []))
+number_word_at words place = or_misuse (NoNumber place) (decimal_number (get_or words place []))
 
 -- the digest at a place of the words
 abbrev pub digest_word_at : List (List ℕ) → ℕ → Read Digest
-digest_word_at words place = or_misuse (NoDigest place) (digest_of (get_or words place []))
+digest_word_at words place = or_misuse (NoDigest place) (digest_in_hex (get_or words place []))
 
 -- the size at a place of the words, if they are so many
 abbrev pub size_at : List (List ℕ) → ℕ → Read (Option ℕ)
