@@ -249,7 +249,7 @@ fn source_of<'a>(
 // Whether the tiles of a folder are those of its checkpoint.
 fn audit_command(rt: &HostRuntime, words: &[Vec<u8>], site: &Site) -> Result<u8, StopAt> {
     let from = source_of(rt, words, site)?;
-    match placed(from.folder.place, followers::audit(rt, &from))? {
+    match placed(from.folder.place, followers::audit_folder(rt, &from))? {
         Some(found) => say_audited(rt, &found),
         None => say_verdict(rt, false),
     }
