@@ -235,7 +235,7 @@ PAXIDORE_ANSWERS int32_t paxidore_log_check(const uint8_t *kept, size_t kept_len
  * The answers of each, in this order: E_ROOM where the pieces have no room; E_LENGTHS where they have not as many bytes
  * as their places say; E_MORE; then its own. E_DAMAGED says that the digests do not lead to the root that the head
  * states, or that a proof of them does not hold; a head of an earlier version states none. */
-#define PAXIDORE_LOG_PIECES_MAX 384U
+#define PAXIDORE_LOG_PIECES_MAX 384U /* no call has more */
 #define PAXIDORE_LOG_STEPS_MAX 8U
 typedef struct paxidore_piece { size_t at, len; } paxidore_piece; /* some bytes of a file: where, and how many */
 
