@@ -1,4 +1,5 @@
 """Finds the public calls that lack a clause, and compares them with the list in docs/LIMITS.md."""
+import functools
 import os
 import re
 
@@ -19,8 +20,13 @@ LIMITS = "docs/LIMITS.md"
 HEADING = "## Calls whose errors no clause names"
 
 
+@functools.lru_cache(None)
 def asked(crate):
-    """Yields the functions that a crate shows, each with its file, its module and its name."""
+    """Returns the functions that a crate shows, each with its file, its module and its name."""
+    return tuple(shown(crate))
+
+
+def shown(crate):
     root = SCOPES.get((crate, ()))
     items = set(offered(root)) if root else set()
     for path in files(crate, "src", ".rt"):
