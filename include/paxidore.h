@@ -259,7 +259,7 @@ typedef struct paxidore_log_steps {
 size_t paxidore_log_file_room(size_t count);
 
 /* What is to be done before a file is appended to, each time that it is opened: one of no bytes, or of a part of a new
- * log's head, gets that head (sync its folder too), any other one is synced. E_ROOM also for `steps`. */
+ * log's head, gets that head (sync its folder too), any other one its own head again. E_ROOM also for `steps`. */
 PAXIDORE_ANSWERS PAXIDORE_NOT_NULL((1, 2)) int32_t paxidore_log_file_make(
     paxidore_log_steps *steps, paxidore_log_pieces *pieces);
 

@@ -1,17 +1,17 @@
 //! Checkpoints of a log that lies in a file, and receipts of entries.
 #![tactic(auto)]
 
-ghost use Rattle.std.specs.Prelude.{◌≡◌, ℕ, List, length, take, drop, IfErr, IfOk, OnOk};
+ghost use Rattle.std.specs.Prelude.{◌≡◌, ℕ, List, length, take, IfErr, IfOk, OnOk};
 ghost use Rattle.ark_paths.specs.Pair.{Digest};
 ghost use Rattle.log_checkpoints.specs.Signing.{IsCheckpointOf, IsUnsigned};
 ghost use Rattle.log_file.specs.LogFile.{IsLogFile};
 ghost use Rattle.log_store.specs.Disk.{After, LeavesOnly, Torn};
-ghost use Rattle.log_store.specs.Store.{IsDurable, IsDurableBeside};
+ghost use Rattle.log_store.specs.Store.{IsDurable, IsDurableBehind};
 ghost use Rattle.signed_notes.specs.Views.{signer_parts};
 
 mod receipts;
 
-use log_store::{Disk, Stop, rewrite_slots};
+use log_store::{Disk, Stop, rewrite_head};
 pub use receipts::{Receipt, ReceiptFault, TITLE, read_receipt, verify_receipt, write_receipt};
 use signed_notes::{Checkpoint, Fault, Signer, sign_checkpoint};
 use std::alloc::Global;
@@ -25,11 +25,12 @@ pub enum Unsigned<R: Drop> {
     Note(Fault),
 }
 
-/// Signs the checkpoint of the log of a file: its size and its root under its head. The slots that state them are written again
-/// and synced before it is signed, so that no crash takes them back, also where a sync was refused before. Nothing that is read
-/// changes. Where it returns an error nothing is signed.
+/// Signs the checkpoint of the log of a file: its size and its root under its head. The head is written again and synced
+/// before it is read, so that no crash takes back what is signed, also where a sync was refused before. Nothing that is
+/// read changes.
+/// Where it returns an error nothing is signed.
 ///
-/// Errors: those of `log_store::root`; the disk's refusal; those of `signed_notes::sign_checkpoint`.
+/// Errors: the disk's refusal; those of `log_store::root`; those of `signed_notes::sign_checkpoint`.
 pub fn checkpoint<D: Disk>(
     alloc: Global,
     disk: &mut D,
@@ -45,28 +46,28 @@ pub fn checkpoint<D: Disk>(
     // A crash leaves the log that was signed.
     ensures durable { D.Obeys disk.new → (leaves : List Digest)
         → IsLogFile leaves (D.seen disk.old)
-        → IsDurableBeside (length leaves) (D.seen disk.old) (D.may_leave disk.old)
+        → IsDurableBehind (length leaves) (D.seen disk.old) (D.may_leave disk.old)
         → OnOk result (IsDurable (length leaves) (D.seen disk.old) (D.may_leave disk.new)) }
     ensures obeys { D.Obeys disk.new → D.Obeys disk.old }
     ensures same { D.Obeys disk.new → D.seen disk.new ≡ D.seen disk.old }
 
-    // A crash at any moment leaves what it might have left before, but for slots that are mixed of their own bytes and of
+    // A crash at any moment leaves what it might have left before, but for a head that is mixed of its own bytes and of
     // those that are read.
     ensures any_moment { D.Obeys disk.new → LeavesOnly D.moment D.left_since disk.old disk.new
-        (After (Torn 32 (take 64 (drop 32 (D.seen disk.old)))) (D.may_leave disk.old)) }
+        (After (Torn 0 (take 96 (D.seen disk.old))) (D.may_leave disk.old)) }
 
-    // Whatever it returned, the title and the digests are as a crash left them before.
+    // Whatever it returned, the digests are as a crash left them before.
     ensures kept { D.Obeys disk.new → (size : ℕ)
-        → IsDurableBeside size (D.seen disk.old) (D.may_leave disk.old)
-        → IsDurableBeside size (D.seen disk.new) (D.may_leave disk.new) }
+        → IsDurableBehind size (D.seen disk.old) (D.may_leave disk.old)
+        → IsDurableBehind size (D.seen disk.new) (D.may_leave disk.new) }
 {
+    if let Err(refusal) = rewrite_head(disk) {
+        return Err(Unsigned::Stopped(Stop::Disk(refusal)));
+    }
     let (size, root) = match log_store::root(disk, None) {
         Ok(root) => root,
         Err(stop) => return Err(Unsigned::Stopped(stop)),
     };
-    if let Err(refusal) = rewrite_slots(disk) {
-        return Err(Unsigned::Stopped(Stop::Disk(refusal)));
-    }
     let checkpoint = Checkpoint {
         origin,
         size,

@@ -6,7 +6,7 @@ use Rattle.ark_paths.specs.Pair.{Digest}
 use Rattle.merkle_log.specs.Stored.{stored_count}
 use Rattle.log_file.specs.LogFile.{file_end, next_slot, slot_front, written, IsLogFile}
 use Rattle.log_store.specs.Disk.{Cut, IsMixed}
-use Rattle.log_store.specs.Store.{BeginsAs, IsBeforeOrAfter, IsBesideSlots, SaysLarger}
+use Rattle.log_store.specs.Store.{BeginsAs, IsBeforeOrAfter, HasDigestsOf, SaysLarger}
 use Rattle.log_store.proofs.Writes.{behind-cut, piece-beside, piece-of}
 
 -- ---- a slot's front
@@ -55,10 +55,6 @@ pub slot-within : (second : Bool) → next_slot second + 32 ≤ 96
 slot-within true = omega arith
 slot-within false = omega arith
 
-pub slot-after : (second : Bool) → 32 ≤ next_slot second
-slot-after true = omega arith
-slot-after false = omega arith
-
 pub slots-apart : (second : Bool) → (next_slot (not second) + 20 ≤ next_slot second)
     ⊎ (next_slot second + 32 ≤ next_slot (not second))
 slots-apart true = inl (omega arith)
@@ -69,39 +65,20 @@ pub slots-far : (second : Bool) → (next_slot second + 20 ≤ next_slot (not se
 slots-far true = inr (omega arith)
 slots-far false = inl (omega arith)
 
--- ---- the title and the digests
+-- ---- the digests
 
-pub beside-then : (size : ℕ) (a b c : List ℕ) → IsBesideSlots size a b → IsBesideSlots size b c → IsBesideSlots size a c
-beside-then size a b c one two = record {
-  title = two.title ∙ one.title;
-  digests = two.digests ∙ one.digests;
-}
-
-pub beside-back : (size : ℕ) (a b : List ℕ) → IsBesideSlots size a b → IsBesideSlots size b a
-beside-back size a b one = record {
-  title = sym one.title;
-  digests = sym one.digests;
-}
+pub digests-then : (size : ℕ) (a b c : List ℕ) → HasDigestsOf size a b → HasDigestsOf size b c → HasDigestsOf size a c
+digests-then size a b c one two = two ∙ one
 
 -- of a file that begins alike
-pub beside-begins : (size : ℕ) (file left : List ℕ) → BeginsAs size file left → IsBesideSlots size file left
-beside-begins size file left is = record {
-  title = piece-of (file_end size) 0 32 left file (omega arith) is;
-  digests = piece-of (file_end size) 96 (32 * stored_count size) left file (omega arith) is;
-}
+pub digests-begins : (size : ℕ) (file left : List ℕ) → BeginsAs size file left → HasDigestsOf size file left
+digests-begins size file left is = piece-of (file_end size) 96 (32 * stored_count size) left file (omega arith) is
 
 -- where the head was cut
-pub beside-cut : (size to m : ℕ) (file left : List ℕ) → 32 ≤ to → to + m ≤ 96 → Cut to m file left
-    → IsBesideSlots size file left
-beside-cut size to m file left ge le cut = record {
-  title = piece-of to 0 32 left file (omega arith) cut.before;
-  digests = behind-cut 96 (32 * stored_count size) to m file left le cut;
-}
+pub digests-cut : (size to m : ℕ) (file left : List ℕ) → to + m ≤ 96 → Cut to m file left → HasDigestsOf size file left
+digests-cut size to m file left le cut = behind-cut 96 (32 * stored_count size) to m file left le cut
 
 -- where it was written
-pub beside-written : (size to : ℕ) (part file : List ℕ) → 32 ≤ to → to + length part ≤ 96 → to ≤ length file
-    → IsBesideSlots size file (written file to part)
-beside-written size to part file ge le inside = record {
-  title = piece-beside file part to 0 32 (inl (omega arith)) inside;
-  digests = piece-beside file part to 96 (32 * stored_count size) (inr le) inside;
-}
+pub digests-put : (size to : ℕ) (part file : List ℕ) → to + length part ≤ 96 → to ≤ length file
+    → HasDigestsOf size file (written file to part)
+digests-put size to part file le inside = piece-beside file part to 96 (32 * stored_count size) (inr le) inside

@@ -15,8 +15,8 @@ use Rattle.log_file.proofs.Files.{cut-head, cut-holds, cut-uses, known, sizes-sa
 use Rattle.log_file.proofs.Heads.{length-front, length-slot, length-statement, HasHead, Uses}
 use Rattle.log_file.proofs.Pieces.{piece-before, piece-written}
 use Rattle.log_store.specs.Disk.{After, IsMixed, Torn, TornTwice}
-use Rattle.log_store.specs.Store.{AreDurableBeside, BeginsAs, IsBesideSlots, IsDurable, IsDurableBeside, IsMidAppend, IsSettled}
-use Rattle.log_store.proofs.Mixing.{beside-back, beside-begins, beside-cut, beside-then, beside-written, by_slot, mixed-front, newly, slot-after, slot-within, slots-apart, slots-far, told, unmixed, IsSaid}
+use Rattle.log_store.specs.Store.{AreDurableBehind, BeginsAs, HasDigestsOf, IsDurable, IsDurableBehind, IsMidAppend, IsSettled}
+use Rattle.log_store.proofs.Mixing.{by_slot, digests-begins, digests-cut, digests-put, digests-then, mixed-front, newly, slot-within, slots-apart, slots-far, told, unmixed, IsSaid}
 use Rattle.log_store.proofs.Tearing.{both-settled, both-written, crash-behind, crash-both, crash-slot, digests-written, end-written, first-inside, longer-written, more-inside, slot-written, Growing}
 use Rattle.log_store.proofs.Writes.{begins-written, cut-beside, piece-beside, piece-of, written-alike}
 
@@ -43,7 +43,7 @@ pub mid-begins : (leaves more : List Digest) (file left : List ℕ) → IsLogFil
     → BeginsAs (length leaves) file left → IsMidAppend leaves more file left
 mid-begins leaves more file left log is = record {
   log = inl (log-begins leaves file left log is);
-  beside = beside-begins (length leaves) file left is;
+  digests = digests-begins (length leaves) file left is;
 }
 
 -- What grows the log of one file grows that of the other.
@@ -73,16 +73,11 @@ growing-same {leaves} {more} {file} {bytes} {second} grow left is =
       some = grow.some;
     }
 
--- A crash leaves the title, the slots and the digests: it leaves the log.
-pub begins-of : (size : ℕ) (file left : List ℕ) → take 32 left ≡ take 32 file
-    → take 64 (drop 32 left) ≡ take 64 (drop 32 file)
-    → take (32 * stored_count size) (drop 96 left) ≡ take (32 * stored_count size) (drop 96 file)
+-- A crash leaves the head and the digests: it leaves the log.
+pub begins-of : (size : ℕ) (file left : List ℕ) → take 96 left ≡ take 96 file → HasDigestsOf size file left
     → BeginsAs size file left
-begins-of size file left title slots digests =
+begins-of size file left head digests =
     let d = 32 * stored_count size in
-    let head : take 96 left ≡ take 96 file =
-    take-add 32 64 left ∙ ap (λ l. l ++ take 64 (drop 32 left)) title ∙ ap (λ l. take 32 file ++ l) slots
-    ∙ sym (take-add 32 64 file) in
     take-add 96 d left ∙ ap (λ l. l ++ take d (drop 96 left)) head ∙ ap (λ l. take 96 file ++ l) digests
     ∙ sym (take-add 96 d file)
 
@@ -93,7 +88,7 @@ pub record IsLate {leaves more : List Digest} {file bytes : List ℕ} {second : 
     (grow : Growing leaves more file bytes second) (root : Digest)
     (root_is : merkle_tree_hash node_of (sha256 []) (leaves ++ more) ≡ Ok root) (left : List ℕ) : Type 0 where
   pub mid : IsMidAppend leaves more file left
-  pub beside : IsBesideSlots (length (leaves ++ more)) (end-written grow root root_is) left
+  pub digests : HasDigestsOf (length (leaves ++ more)) (end-written grow root root_is) left
 
 module _ {leaves more : List Digest} {file bytes : List ℕ} {second : Bool}
     (grow : Growing leaves more file bytes second)
@@ -134,11 +129,10 @@ module _ {leaves more : List Digest} {file bytes : List ℕ} {second : Bool}
       let n = length leaves in
       record {
         log = inl (end-log left (before, now, (mid, one, two)));
-        beside = beside-then n file mid left
-            (beside-then n file before mid (beside-begins n file before (begins before now))
-            (beside-begins n before mid one.cut.before))
-            (beside-cut n (next_slot second + 20) 12 mid left (omega (arith, slot-after second))
-            (omega (arith, slot-within second)) two);
+        digests = digests-then n file mid left
+            (digests-then n file before mid (digests-begins n file before (begins before now))
+            (digests-begins n before mid one.cut.before))
+            (digests-cut n (next_slot second + 20) 12 mid left (omega (arith, slot-within second)) two);
       }
 
   -- ---- with the root of the log with the new leaves
@@ -262,29 +256,26 @@ module _ {leaves more : List Digest} {file bytes : List ℕ} {second : Bool}
     far-beside (inl le) = inl le
     far-beside (inr ge) = inr (omega (arith, length-slot new root))
 
-    -- the title and the digests of the log as it was, of a file that has those of the new one
-    mid-beside : (left : List ℕ) → IsBesideSlots new (end-written grow root root_is) left
-        → IsBesideSlots (length leaves) file left
-    mid-beside left beside =
+    -- the digests of the log as it was, of a file that has those of the new one
+    fewer-digests : (left : List ℕ) → HasDigestsOf new (end-written grow root root_is) left
+        → HasDigestsOf (length leaves) file left
+    fewer-digests left digests =
         let n = length leaves in
         let less : 32 * stored_count n ≤ 32 * stored_count new = omega (arith, bytes-end) in
-        beside-then n file (end-written grow root root_is) left
-        (beside-then n file (digests-written grow) (end-written grow root root_is)
-        (beside-begins n file (digests-written grow) (piece-before file bytes (file_end n) 0 (file_end n) (omega arith)
+        digests-then n file (end-written grow root root_is) left
+        (digests-then n file (digests-written grow) (end-written grow root root_is)
+        (digests-begins n file (digests-written grow) (piece-before file bytes (file_end n) 0 (file_end n) (omega arith)
         (first-inside grow)))
-        (beside-written n (next_slot second + 20) (statement new root) (digests-written grow)
-        (omega (arith, slot-after second)) (omega (arith, slot-within second, length-statement new root))
-        (end-in grow))) (record {
-          title = beside.title;
-          digests = piece-of (32 * stored_count new) 0 (32 * stored_count n) (drop 96 left)
-              (drop 96 (end-written grow root root_is)) (omega (arith, less)) beside.digests;
-        })
+        (digests-put n (next_slot second + 20) (statement new root) (digests-written grow)
+        (omega (arith, slot-within second, length-statement new root)) (end-in grow)))
+        (piece-of (32 * stored_count new) 0 (32 * stored_count n) (drop 96 left)
+        (drop 96 (end-written grow root root_is)) (omega (arith, less)) digests)
 
     late : (left : List ℕ) → IsSaid leaves more left → ((which : Bool) → Mixed-at left which)
-        → IsBesideSlots new (end-written grow root root_is) left → IsLate grow root root_is left
-    late left said mixed beside = record {
-      mid = record { log = told leaves more file left mixed said; beside = mid-beside left beside };
-      beside = beside;
+        → HasDigestsOf new (end-written grow root root_is) left → IsLate grow root root_is left
+    late left said mixed digests = record {
+      mid = record { log = told leaves more file left mixed said; digests = fewer-digests left digests };
+      digests = digests;
     }
 
     pub end-whole : (left : List ℕ) → After (λ old new. new ≡ written (written old (file_end (length leaves)) bytes)
@@ -306,9 +297,9 @@ module _ {leaves more : List Digest} {file bytes : List ℕ} {second : Bool}
         (unmixed (stood (not second)) (slot_front new) _
         (cut-beside (next_slot (not second)) 20 (next_slot second) (length (slot_front new)) whole left
         (front-beside (slots-apart second)) there.cut ∙ end-other end.before end.now)))
-        (beside-then new (end-written grow root root_is) whole left
-        (beside-begins new (end-written grow root root_is) whole (end-alike end.before end.now))
-        (beside-cut new (next_slot second) (length (slot_front new)) whole left (slot-after second)
+        (digests-then new (end-written grow root root_is) whole left
+        (digests-begins new (end-written grow root root_is) whole (end-alike end.before end.now))
+        (digests-cut new (next_slot second) (length (slot_front new)) whole left
         (omega (arith, slot-within second, length-front new)) there.cut))
 
     pub slot-whole : (left : List ℕ) → After (λ old new. new ≡ written old (next_slot second)
@@ -337,12 +328,12 @@ module _ {leaves more : List Digest} {file bytes : List ℕ} {second : Bool}
         (mixed-front (stood (not second)) front (slot new root) (slot_front new) (drop (next_slot (not second)) left)
         there.mixed (slot-other has.before has.now) (length-front new) (omega (arith, length-slot new root))
         (take_at (slot_front new) (statement new root) 20 (length-front new))))
-        (beside-then new (end-written grow root root_is) whole left
-        (beside-then new (end-written grow root root_is) end whole
-        (beside-begins new (end-written grow root root_is) end (end-alike has.before has.now))
-        (beside-written new (next_slot second) (slot_front new) end (slot-after second)
+        (digests-then new (end-written grow root root_is) whole left
+        (digests-then new (end-written grow root root_is) end whole
+        (digests-begins new (end-written grow root root_is) end (end-alike has.before has.now))
+        (digests-put new (next_slot second) (slot_front new) end
         (omega (arith, slot-within second, length-front new)) (slot-in own)))
-        (beside-cut new (next_slot (not second)) (length (slot new root)) whole left (slot-after (not second))
+        (digests-cut new (next_slot (not second)) (length (slot new root)) whole left
         (omega (arith, slot-within (not second), length-slot new root)) there.cut))
 
     -- all was written
@@ -358,18 +349,17 @@ module _ {leaves more : List Digest} {file bytes : List ℕ} {second : Bool}
 
 -- ---- what may be written again
 
--- a log whose title and digests are as they were
+-- a log whose digests are as they were
 kept-same : (leaves more : List Digest) (file seen : List ℕ) (may_leave : List ℕ → Type 0)
     → IsMidAppend leaves more file seen → ((left : List ℕ) → may_leave left → IsMidAppend leaves more file left)
-    → IsDurableBeside (length leaves) seen may_leave
+    → IsDurableBehind (length leaves) seen may_leave
 kept-same leaves more file seen may_leave read crash left now =
-    beside-then (length leaves) seen file left (beside-back (length leaves) file seen read.beside)
-    (crash left now).beside
+    digests-then (length leaves) seen file left (sym read.digests) (crash left now).digests
 
 -- Where the log is read as it was, it is not read with the new leaves.
 pub kept-early : (leaves more : List Digest) (file seen : List ℕ) (may_leave : List ℕ → Type 0) → 0 < length more
     → IsLogFile leaves seen → IsMidAppend leaves more file seen
-    → ((left : List ℕ) → may_leave left → IsMidAppend leaves more file left) → AreDurableBeside leaves more seen
+    → ((left : List ℕ) → may_leave left → IsMidAppend leaves more file left) → AreDurableBehind leaves more seen
     may_leave
 kept-early leaves more file seen may_leave some is read crash log (inl same) there =
     rw (same) (kept-same leaves more file seen may_leave read crash)
@@ -380,7 +370,7 @@ kept-early leaves more file seen may_leave some is read crash log (inr more_is) 
 
 -- Where an append was not begun, nothing changed.
 pub kept-still : (leaves more : List Digest) (file : List ℕ) (may_leave : List ℕ → Type 0) → 0 < length more
-    → IsLogFile leaves file → IsDurable (length leaves) file may_leave → AreDurableBeside leaves more file may_leave
+    → IsLogFile leaves file → IsDurable (length leaves) file may_leave → AreDurableBehind leaves more file may_leave
 kept-still leaves more file may_leave some log durable =
     kept-early leaves more file file may_leave some log (mid-begins leaves more file file log refl)
     (λ left now. mid-begins leaves more file left log (durable left now))
@@ -390,11 +380,10 @@ pub kept-late : {leaves more : List Digest} {file bytes : List ℕ} {second : Bo
     (grow : Growing leaves more file bytes second) (root : Digest)
     (root_is : merkle_tree_hash node_of (sha256 []) (leaves ++ more) ≡ Ok root) (seen : List ℕ)
     (may_leave : List ℕ → Type 0) → IsLate grow root root_is seen
-    → ((left : List ℕ) → may_leave left → IsLate grow root root_is left) → AreDurableBeside leaves more seen may_leave
+    → ((left : List ℕ) → may_leave left → IsLate grow root root_is left) → AreDurableBehind leaves more seen may_leave
 kept-late {leaves} {more} {file} grow root root_is seen may_leave read crash log (inl same) there =
     rw (same) (kept-same leaves more file seen may_leave read.mid (λ left now. (crash left now).mid))
 kept-late {leaves} {more} {file} grow root root_is seen may_leave read crash log (inr more_is) there =
     let size = length (leaves ++ more) in
     let end = end-written grow root root_is in
-    rw (more_is) (λ left now. beside-then size seen end left (beside-back size end seen read.beside)
-    (crash left now).beside)
+    rw (more_is) (λ left now. digests-then size seen end left (sym read.digests) (crash left now).digests)

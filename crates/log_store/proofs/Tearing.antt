@@ -71,11 +71,6 @@ growing {leaves} {more} {file} {bytes} {second} growth = record {
 }
 
 -- how long a slot and its front are
-pub front-long-of : (front : List ℕ) (size : ℕ) → front ≡ slot_front size → length front ≡ 20
-front-long-of front size is = ap length is ∙ length-front size
-
-pub slot-long-of : (part : List ℕ) (size : ℕ) (root : Digest) → part ≡ slot size root → length part ≡ 32
-slot-long-of part size root is = ap length is ∙ length-slot size root
 
 -- the other slot
 twice_not : (b : Bool) → not (not b) ≡ b

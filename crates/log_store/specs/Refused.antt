@@ -53,6 +53,12 @@ IsUnrecovered file (Ok value) = Unit {0}
 IsUnrecovered file (Err (Fault fault)) = (fault ≡ NoLog) × IsBeyond file
 IsUnrecovered file (Err (Disk refusal)) = Unit {0}
 
+-- Where a fault is returned this is so.
+abbrev pub OnFault : {A R : Type 0} → Result A (Stop R) → Type 0 → Type 0
+OnFault (Ok value) P = Unit {0}
+OnFault (Err (Fault fault)) P = P
+OnFault (Err (Disk refusal)) P = Unit {0}
+
 -- No fault: only a refusal of the disk.
 abbrev pub IsOfDisk : {A R : Type 0} → Result A (Stop R) → Type 0
 IsOfDisk (Ok value) = Unit {0}

@@ -28,18 +28,18 @@ IsHeadless file = (i : ℕ) → i < 96 → get_or file i 0 ≡ 0
 abbrev pub BeginsAs : ℕ → List ℕ → List ℕ → Type 0
 BeginsAs size file left = take (file_end size) left ≡ take (file_end size) file
 
--- A crash leaves the head and the digests of a log of this size.
+-- Nothing of the log of this size is doubtful: a crash leaves its head and its digests as they are in this file.
 abbrev pub IsDurable : ℕ → List ℕ → (List ℕ → Type 0) → Type 0
 IsDurable size file may_leave = (left : List ℕ) → may_leave left → BeginsAs size file left
 
--- The title and the digests of a log of this size are as in another file, whatever the two slots are.
-pub record IsBesideSlots (size : ℕ) (file left : List ℕ) : Type 0 where
-  pub title : take 32 left ≡ take 32 file
-  pub digests : take (32 * stored_count size) (drop 96 left) ≡ take (32 * stored_count size) (drop 96 file)
+-- Behind the head the digests of a log of this size are as in another file.
+abbrev pub HasDigestsOf : ℕ → List ℕ → List ℕ → Type 0
+HasDigestsOf size file left =
+    take (32 * stored_count size) (drop 96 left) ≡ take (32 * stored_count size) (drop 96 file)
 
--- A crash leaves the title and the digests of a log of this size, whatever it leaves of the two slots.
-abbrev pub IsDurableBeside : ℕ → List ℕ → (List ℕ → Type 0) → Type 0
-IsDurableBeside size file may_leave = (left : List ℕ) → may_leave left → IsBesideSlots size file left
+-- A crash leaves the digests of a log of this size as they are in this file, whatever it leaves of the head.
+abbrev pub IsDurableBehind : ℕ → List ℕ → (List ℕ → Type 0) → Type 0
+IsDurableBehind size file may_leave = (left : List ℕ) → may_leave left → HasDigestsOf size file left
 
 -- A whole slot says a size larger than the log's that is not the new one. Where nobody wrote it, that takes a
 -- coincidence of 12 bytes of SHA-256.
@@ -47,8 +47,8 @@ abbrev pub SaysLarger : ℕ → ℕ → List ℕ → Type 0
 SaysLarger size new file =
     (other : ℕ) × (second : Bool) × (file_head file ≡ Some (other, second)) × (size < other) × (other ≢ new)
 
--- A slot says such a size by chance: the front of each slot has at each byte what stood in the file, or that of the new
--- size.
+-- A slot says such a size by chance: the front of each of the two has at each byte what stood in the file, or that of the
+-- new size.
 pub record IsForged (size new : ℕ) (file left : List ℕ) : Type 0 where
   pub says : SaysLarger size new left
   pub mixed : (second : Bool)
@@ -59,11 +59,11 @@ abbrev pub IsBeforeOrAfter : List Digest → List Digest → List ℕ → List �
 IsBeforeOrAfter leaves more file left = IsLogFile leaves left ⊎ IsLogFile (leaves ++ more) left
     ⊎ IsForged (length leaves) (length (leaves ++ more)) file left
 
--- An append to a file is not done: the title and the digests of the log are there, and slots for it, or for the log
--- with the new leaves.
+-- An append to a file may be under way: the digests of the log are there, and the file is that of the log as it was, or
+-- with the new leaves; or a slot is forged.
 pub record IsMidAppend (leaves more : List Digest) (file left : List ℕ) : Type 0 where
   pub log : IsBeforeOrAfter leaves more file left
-  pub beside : IsBesideSlots (length leaves) file left
+  pub digests : HasDigestsOf (length leaves) file left
 
 -- The file is that of a log, whose second slot takes the next size or not, and the bytes are those of the digests that
 -- more leaves add to it.
@@ -86,7 +86,7 @@ abbrev pub IsDurableLog : List Digest → List ℕ → (List ℕ → Type 0) →
 IsDurableLog leaves file may_leave =
     (left : List ℕ) → may_leave left → BeginsAs (length leaves) file left × IsSettled leaves left
 
--- Of each of two logs, where it is read, a crash leaves the title and the digests.
-abbrev pub AreDurableBeside : List Digest → List Digest → List ℕ → (List ℕ → Type 0) → Type 0
-AreDurableBeside leaves more file may_leave = (log : List Digest) → (log ≡ leaves) ⊎ (log ≡ leaves ++ more)
-    → IsLogFile log file → IsDurableBeside (length log) file may_leave
+-- Of each of two logs, where it is read, a crash leaves the digests.
+abbrev pub AreDurableBehind : List Digest → List Digest → List ℕ → (List ℕ → Type 0) → Type 0
+AreDurableBehind leaves more file may_leave = (log : List Digest) → (log ≡ leaves) ⊎ (log ≡ leaves ++ more)
+    → IsLogFile log file → IsDurableBehind (length log) file may_leave

@@ -23,8 +23,8 @@ pub trait Disk {
     // What a crash at this moment may leave.
     ghost may_leave: { Self → List ℕ → Type 0 };
 
-    // From a place on these bytes were written since the last refused sync, and nothing was written over them since. Of a
-    // file that was just opened it says nothing.
+    // Through this value these bytes were written from a place on since its last sync that was refused, and nothing was
+    // written over them since. Of a file that was just opened it says nothing.
     ghost fresh: { Self → ℕ → List ℕ → Type 0 };
 
     // The moment, as a number that does not fall.

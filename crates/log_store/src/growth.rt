@@ -5,12 +5,12 @@ ghost use Rattle.sha2.specs.Sha256.{sha256};
 ghost use Rattle.ark_paths.specs.Pair.{Digest};
 ghost use Rattle.ark_trees.specs.Rfc6962.{node_of};
 ghost use Rattle.log_store.specs.Disk.{After, LeavesMore, LeavesOnly, TornTwice};
-ghost use Rattle.log_store.specs.Store.{AreDurableBeside, IsDurable, IsDurableLog, IsGrowth, IsMidAppend, IsSettled};
+ghost use Rattle.log_store.specs.Store.{AreDurableBehind, IsDurable, IsDurableLog, IsGrowth, IsMidAppend, IsSettled};
 ghost use Rattle.merkle_log.specs.Asked.{IsPeak};
 ghost use Rattle.merkle_log.specs.Kept.{Keeps, stored_front};
 ghost use Rattle.merkle_log.specs.Log.{merkle_tree_hash};
 ghost use Rattle.merkle_log.specs.Stored.{row_at, stored_count};
-ghost use Rattle.log_store.specs.Refused.{IsRefusedAfter, IsRefusedFor};
+ghost use Rattle.log_store.specs.Refused.{IsRefusedAfter, IsRefusedFor, OnFault};
 ghost use Rattle.log_file.specs.Append.{appended_size, HasBehind};
 ghost use Rattle.log_file.specs.declared.fault.Fault.TheVariants.{Memory};
 ghost use Rattle.log_file.specs.Faults.{log_size};
@@ -90,11 +90,11 @@ fn is_near(size: usize) -> bool
 }
 
 /// Appends entries with these digests, one at least, to the log of a file, and returns the new size. Nothing of the log may be
-/// doubtful: `make` or `rewrite_slots` comes first, and again after an error. It reads the head and at most 128 digests.
+/// doubtful, so `make` or `rewrite_head` comes first, and again after an error. It reads the head and at most 128 digests.
 ///
 /// Errors: those of `read_head`, `Damaged`, `Size` for a new size of over 63 bits, `Memory`, also for a size with more bytes
 /// than a file has, after which nothing was written; the disk's refusal, after which the file is that of the log before or
-/// after.
+/// after, but for the chance that `IsForged` names.
 pub fn append<D: Disk>(
     alloc: Global,
     disk: &mut D,
@@ -105,6 +105,9 @@ pub fn append<D: Disk>(
     ensures refused { let file = D.seen disk.old in
         let size = appended_size file (length digests.now) in
         D.Obeys disk.new → IsRefusedFor file size result }
+    // Behind a fault nothing was written.
+    ensures unwritten { D.Obeys disk.new → OnFault result ((D.seen disk.new ≡ D.seen disk.old)
+        × ((left : List ℕ) → D.may_leave disk.new left → D.may_leave disk.old left)) }
 
     // Once it returned, the file is that of the log with the entries; and so it is if one of its two slots is lost.
     ensures acknowledged { D.Obeys disk.new → (leaves : List Digest)
@@ -123,7 +126,7 @@ pub fn append<D: Disk>(
     ensures gives { let file = D.seen disk.old in D.Obeys disk.new
         → IfOk result (λ new_size. appended_size file (length digests.now) ≡ Ok new_size) }
 
-    // A crash at any moment leaves the log as it was, or with the entries.
+    // A crash at any moment leaves the log as it was, or with the entries; or a slot is forged.
     ensures any_moment { D.Obeys disk.new → (leaves : List Digest)
         → IsLogFile leaves (D.seen disk.old)
         → IsDurable (length leaves) (D.seen disk.old) (D.may_leave disk.old)
@@ -134,10 +137,10 @@ pub fn append<D: Disk>(
     ensures left { D.Obeys disk.new → (leaves : List Digest) → IsLogFile leaves (D.seen disk.old)
         → IsMidAppend leaves digests.now (D.seen disk.old) (D.seen disk.new) }
 
-    // Of the log that is read then a crash leaves the title and the digests: its slots may be written again.
+    // Of the log that is read then a crash leaves the digests: its head may be written again.
     ensures kept { D.Obeys disk.new → (leaves : List Digest) → IsLogFile leaves (D.seen disk.old)
         → IsDurable (length leaves) (D.seen disk.old) (D.may_leave disk.old)
-        → AreDurableBeside leaves digests.now (D.seen disk.new) (D.may_leave disk.new) }
+        → AreDurableBehind leaves digests.now (D.seen disk.new) (D.may_leave disk.new) }
 {
     let log = read_log(disk)?;
     let size = log.size.saturating_add(digests.len());
@@ -172,6 +175,9 @@ pub fn append_after<D: Disk>(
     ensures obeys { D.Obeys disk.new → D.Obeys disk.old }
     ensures refused { let file = D.seen disk.old in D.Obeys disk.new → IsRefusedAfter file size
         root.now (appended_size file (length digests.now)) result }
+    // Behind a fault nothing was written.
+    ensures unwritten { D.Obeys disk.new → OnFault result ((D.seen disk.new ≡ D.seen disk.old)
+        × ((left : List ℕ) → D.may_leave disk.new left → D.may_leave disk.old left)) }
 
     // Of every file: a slot has this size, and states this root or none.
     ensures after { D.Obeys disk.new → OnOk result ((log_size (D.seen disk.old) ≡ Ok size)
@@ -198,7 +204,7 @@ pub fn append_after<D: Disk>(
         → IsMidAppend leaves digests.now (D.seen disk.old) (D.seen disk.new) }
     ensures kept { D.Obeys disk.new → (leaves : List Digest) → IsLogFile leaves (D.seen disk.old)
         → IsDurable (length leaves) (D.seen disk.old) (D.may_leave disk.old)
-        → AreDurableBeside leaves digests.now (D.seen disk.new) (D.may_leave disk.new) }
+        → AreDurableBehind leaves digests.now (D.seen disk.new) (D.may_leave disk.new) }
 {
     let log = read_log(disk)?;
     if !log.is(size, root) {
@@ -279,7 +285,7 @@ fn write_all<D: Disk>(
         → IsGrowth leaves more (D.seen disk.old) bytes.now is_second_free
         → place ≡ file_end (length leaves) → size ≡ length (leaves ++ more)
         → IsDurable (length leaves) (D.seen disk.old) (D.may_leave disk.old)
-        → AreDurableBeside leaves more (D.seen disk.new) (D.may_leave disk.new) }
+        → AreDurableBehind leaves more (D.seen disk.new) (D.may_leave disk.new) }
 {
     let free = next_slot(is_second_free);
     let root = write_behind(disk, place, bytes, free + 20, size)?;

@@ -1,8 +1,8 @@
 //! A log in a file: appends that a crash cannot lose once they returned, and roots and proofs, for which only what they ask for
 //! is read, and which are checked.
 //!
-//! The file lies on a disk, whose calls may fail and of which a crash may leave any part of what was written since the last
-//! sync.
+//! The file lies on a disk, whose calls may fail. A sync makes durable what was written since the last one that was refused, and a
+//! crash may leave any bytes of the rest.
 #![tactic(auto)]
 
 mod again;
@@ -20,7 +20,7 @@ mod steps;
 mod stop;
 mod window;
 
-pub use again::rewrite_slots;
+pub use again::rewrite_head;
 pub use disk::Disk;
 pub use edge::read_digest;
 pub use growth::{append, append_after};

@@ -1,13 +1,13 @@
 //! The head of a new log's file.
 
-ghost use Rattle.std.specs.Prelude.{◌≡◌, ◌⊎◌, ℕ, List, [], length, take, drop, true, false, IfOk, OnOk};
+ghost use Rattle.std.specs.Prelude.{◌≡◌, ◌⊎◌, ℕ, List, [], length, take, true, false, IfOk, OnOk};
 ghost use Rattle.ark_paths.specs.Pair.{Digest};
 ghost use Rattle.log_store.specs.Disk.{After, LeavesOnly, Torn};
 ghost use Rattle.log_store.specs.Refused.{IsOfDisk};
-ghost use Rattle.log_store.specs.Store.{new_head, IsDurable, IsDurableBeside, IsDurableLog, IsEmpty, IsPartOf, IsSettled};
+ghost use Rattle.log_store.specs.Store.{new_head, IsDurable, IsDurableBehind, IsDurableLog, IsEmpty, IsPartOf, IsSettled};
 ghost use Rattle.log_file.specs.LogFile.{IsLogFile};
 
-use crate::again::rewrite_slots;
+use crate::again::rewrite_head;
 use crate::disk::Disk;
 use crate::log::read_log;
 use crate::steps::write_durably;
@@ -76,8 +76,8 @@ fn is_begun<D: Disk>(disk: &D, head: &[u8; START]) -> Result<bool, Stop<D::Refus
 }
 
 /// Makes a file ready for appends. A file that has no byte, or no more than a part of the head of a log of no entries, gets that
-/// head. Of another one the two slots are written again, as they are read. It syncs either way, and behind it nothing of the log is
-/// doubtful.
+/// head. Of another one the head is written again, as it is read. It syncs either way, and behind it nothing of the log is
+/// doubtful: a crash leaves it.
 ///
 /// Errors: the disk's refusal.
 pub fn make<D: Disk>(disk: &mut D) -> Result<(), Stop<D::Refusal>>
@@ -87,41 +87,45 @@ pub fn make<D: Disk>(disk: &mut D) -> Result<(), Stop<D::Refusal>>
     ensures kept { D.Obeys disk.new → (leaves : List Digest) → IsLogFile leaves (D.seen disk.old)
         → D.seen disk.new ≡ D.seen disk.old }
 
-    // What is neither empty nor a part of that head stays as it is.
+    // What is neither empty nor a part of that head stays as it is, also where a crash comes.
     ensures others { D.Obeys disk.new
         → IsPartOf new_head (D.seen disk.old) ⊎ (D.seen disk.new ≡ D.seen disk.old) }
+    ensures others_moment { D.Obeys disk.new → IsPartOf new_head (D.seen disk.old)
+        ⊎ LeavesOnly D.moment D.left_since disk.old disk.new
+        (After (Torn 0 (take 96 (D.seen disk.old))) (D.may_leave disk.old)) }
 
     // A file that has no byte has the log of no entries, and stays it if one of its slots is lost.
     ensures made { D.Obeys disk.new → D.seen disk.old ≡ []
         → OnOk result (IsSettled [] (D.seen disk.new)) }
     ensures refused { IsOfDisk result }
 
-    // A crash then leaves the log, also where a sync of a slot was refused before.
+    // A crash then leaves the log, also where a sync of its head was refused before.
     ensures durable { D.Obeys disk.new → (leaves : List Digest)
         → IsLogFile leaves (D.seen disk.old)
-        → IsDurableBeside (length leaves) (D.seen disk.old) (D.may_leave disk.old)
+        → IsDurableBehind (length leaves) (D.seen disk.old) (D.may_leave disk.old)
         → OnOk result (IsDurable (length leaves) (D.seen disk.new) (D.may_leave disk.new)) }
     ensures new_durable { D.Obeys disk.new → D.seen disk.old ≡ []
         → IsEmpty (D.may_leave disk.old)
         → OnOk result (IsDurableLog [] (D.seen disk.new) (D.may_leave disk.new)) }
 
-    // A crash at any moment leaves of a log's file what it might have left before, but for slots that are mixed of their own
+    // A crash at any moment leaves of a log's file what it might have left before, but for a head that is mixed of its own
     // bytes and of those that are read.
     ensures any_moment { D.Obeys disk.new → (leaves : List Digest)
         → IsLogFile leaves (D.seen disk.old)
         → LeavesOnly D.moment D.left_since disk.old disk.new
-        (After (Torn 32 (take 64 (drop 32 (D.seen disk.old)))) (D.may_leave disk.old)) }
+        (After (Torn 0 (take 96 (D.seen disk.old))) (D.may_leave disk.old)) }
 
-    // Of a file that has no more than a part of that head it leaves such a file.
+    // Of a file that has no byte it leaves no more than a part of that head; and so is what is read, whatever it returned.
+    ensures left { D.Obeys disk.new → D.seen disk.old ≡ [] → IsPartOf new_head (D.seen disk.new) }
     ensures begun { D.Obeys disk.new → D.seen disk.old ≡ []
         → ((left : List ℕ) → D.may_leave disk.old left → IsPartOf new_head left)
         → LeavesOnly D.moment D.left_since disk.old disk.new (IsPartOf new_head) }
 
-    // Whatever it returned, of a log's file the title and the digests are as a crash left them before.
-    ensures kept_beside { D.Obeys disk.new → (leaves : List Digest)
+    // Whatever it returned, of a log's file the digests are as a crash left them before.
+    ensures kept_behind { D.Obeys disk.new → (leaves : List Digest)
         → IsLogFile leaves (D.seen disk.old)
-        → IsDurableBeside (length leaves) (D.seen disk.old) (D.may_leave disk.old)
-        → IsDurableBeside (length leaves) (D.seen disk.new) (D.may_leave disk.new) }
+        → IsDurableBehind (length leaves) (D.seen disk.old) (D.may_leave disk.old)
+        → IsDurableBehind (length leaves) (D.seen disk.new) (D.may_leave disk.new) }
 {
     let head = head_bytes(0, &Sha256::digest([].as_slice()));
     if is_begun(disk, &head)? {
@@ -130,7 +134,7 @@ pub fn make<D: Disk>(disk: &mut D) -> Result<(), Stop<D::Refusal>>
             Err(refusal) => Err(Stop::Disk(refusal)),
         };
     }
-    match rewrite_slots(disk) {
+    match rewrite_head(disk) {
         Ok(()) => Ok(()),
         Err(refusal) => Err(Stop::Disk(refusal)),
     }

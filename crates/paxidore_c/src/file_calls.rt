@@ -128,7 +128,7 @@ pub extern "C" fn paxidore_log_file_room(count: usize) -> usize
 }
 
 /// Hands over what is to be written to a file before a keeper uses it: the head of a log of no entries, where it has no byte or
-/// no more than a part of that head; else nothing, but it is to be synced. Its own refusal: `E_ROOM` for `bytes` and `steps`.
+/// no more than a part of that head; else its own head again. Its own refusal: `E_ROOM` for `bytes` and `steps`.
 #[unsafe(no_mangle)]
 pub extern "C" fn paxidore_log_file_make(
     alloc: Global,

@@ -74,7 +74,8 @@ fn hash_in(
     inputs: &[u8],
 ) -> Result<[u8; 32], Refused>
     ensures { (count : ℕ) (c : Parameters) → SpellsTable count c table.now
-        → CallGivesBy (λ digest. digest) (hashing_refused (hash_outcome order c inputs.now)) result }
+        → CallGivesBy (λ digest. digest)
+        (hashing_refused (hash_outcome order c inputs.now)) result }
 {
     let table = match CircomTable::of(alloc, table) {
         Ok(table) => table,

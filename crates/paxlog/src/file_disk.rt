@@ -8,7 +8,7 @@ use std::fs::File;
 use std::io;
 use std::os::unix::fs::FileExt;
 
-/// An open file of the operating system. Nothing is proved of it: that its five calls do what `Disk` says is trusted.
+/// An open file of the operating system. Nothing is proved of it: that its four calls do what `Disk` says is trusted.
 #[derive(Drop)]
 pub struct FileDisk {
     pub file: File,

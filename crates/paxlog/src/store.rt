@@ -35,7 +35,7 @@ pub fn sync_folder_of(rt: &HostRuntime, path: &str) -> Result<(), Stop> {
 }
 
 // Makes a file ready for appends: a file that has no byte, or no more than a part of the head of no entries, gets that head, and of
-// another one the slots are written again. The folder is synced too as long as the log has no entry: whoever made the file may have
+// another one the head is written again. The folder is synced too as long as the log has no entry: whoever made the file may have
 // ended before its name was on the disk.
 fn make_file(rt: &HostRuntime, path: &str, disk: &mut FileDisk) -> Result<(), Stop> {
     let has_entries = disk.length()? > START;
@@ -112,7 +112,7 @@ impl<'a> Keeper<'a> {
         if options.after.is_none() {
             make_file(rt, path, &mut disk)?;
         } else {
-            log_store::rewrite_slots(&mut disk)?;
+            log_store::rewrite_head(&mut disk)?;
         }
         Ok(Keeper {
             path,
@@ -252,7 +252,7 @@ pub fn unchanged(rt: &HostRuntime, path: &str) -> Result<FileDisk, Stop> {
     opened_alone(rt, path, false)
 }
 
-/// Opens the file of a log that is to be signed, to which nobody appends meanwhile. Its slots are written again before that, so the
+/// Opens the file of a log that is to be signed, to which nobody appends meanwhile. Its head is written again before that, so the
 /// file has to be one that may be written.
 pub fn to_be_signed(rt: &HostRuntime, path: &str) -> Result<FileDisk, Stop> {
     opened_alone(rt, path, true)

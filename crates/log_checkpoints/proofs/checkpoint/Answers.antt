@@ -1,4 +1,4 @@
-use Rattle.std.proofs.Common.{◌≡◌, ℕ, not, nat_lt, [], length, take, drop, refl, subst, Result, Ok, Err, inl, inr, ap, sym, ◌∙◌, arith}
+use Rattle.std.proofs.Common.{◌≡◌, ℕ, not, nat_lt, [], length, take, refl, subst, Result, Ok, Err, inl, inr, ap, sym, ◌∙◌, arith}
 use Rattle.std.proofs.lemmas.Bool.{le-ltb}
 use Rattle.std.proofs.lemmas.List.{take_all}
 use Rattle.sha2.specs.Sha256.{sha256}
@@ -22,7 +22,7 @@ size-of-all (Err fault) size is = is
 
 pub returns-in-Ok-sign_checkpoint-clause-signed : goal.returns-in-Ok-sign_checkpoint-clause-signed
 returns-in-Ok-sign_checkpoint-clause-signed g c = λ obeys.
-    let held = c.rewrite_slots.ensures.obeys obeys in
+    let held = c.rewrite_head.ensures.obeys obeys in
     let size_is = size-of-all _ c.in-Ok.root.0 (c.in-Ok.ensures.size held) in
     record {
       size = c.in-Ok.root.0;
@@ -40,7 +40,7 @@ returns-in-Ok-sign_checkpoint-clause-signed g c = λ obeys.
 
 pub returns-in-Err-sign_checkpoint-clause-refused : goal.returns-in-Err-sign_checkpoint-clause-refused
 returns-in-Err-sign_checkpoint-clause-refused g c = λ obeys.
-    let held = c.rewrite_slots.ensures.obeys obeys in
+    let held = c.rewrite_head.ensures.obeys obeys in
     let size_is = size-of-all _ c.in-Ok.root.0 (c.in-Ok.ensures.size held) in
     elim c.in-Err-sign_checkpoint.ensures [
       | inl memory ↦ inl memory
@@ -49,11 +49,11 @@ returns-in-Err-sign_checkpoint-clause-refused g c = λ obeys.
 
 pub returns-in-Err-clause-any_moment : goal.returns-in-Err-clause-any_moment
 returns-in-Err-clause-any_moment g c = λ obeys.
-    let part = take 64 (drop 32 (g.D.Disk.seen c.args.disk.now)) in
-    begun g.D.Disk c.args.disk.now (After (Torn 32 part) (g.D.Disk.may_leave c.args.disk.now))
-    (λ left since. (left, g.met.D.Disk.only_now c.args.disk.now left since, torn-not 32 part left left refl))
+    let part = take 96 (g.D.Disk.seen c.args.disk.now) in
+    begun g.D.Disk c.args.disk.now (After (Torn 0 part) (g.D.Disk.may_leave c.args.disk.now))
+    (λ left since. (left, g.met.D.Disk.only_now c.args.disk.now left since, torn-not 0 part left left refl))
 
 pub returns-in-Ok-sign_checkpoint-clause-durable : goal.returns-in-Ok-sign_checkpoint-clause-durable
 returns-in-Ok-sign_checkpoint-clause-durable g c = λ obeys leaves log kept.
-    subst (λ f. IsDurable (length leaves) f (g.D.Disk.may_leave c.rewrite_slots.new.disk))
-    (c.rewrite_slots.ensures.same obeys) (c.in_default.ensures.durable obeys leaves log kept)
+    subst (λ f. IsDurable (length leaves) f (g.D.Disk.may_leave c.rewrite_head.new.disk))
+    (c.rewrite_head.ensures.same obeys) (c.in_default.ensures.durable obeys leaves log kept)

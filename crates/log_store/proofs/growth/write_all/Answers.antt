@@ -6,7 +6,7 @@ use Rattle.merkle_log.specs.Log.{merkle_tree_hash}
 use Rattle.merkle_log.proofs.Givens.{known_if_ok}
 use Rattle.log_file.specs.LogFile.{file_end, next_slot, slot_front, written, IsLogFile}
 use Rattle.log_store.specs.Disk.{LeavesMore, LeavesOnly, TornTwice}
-use Rattle.log_store.specs.Store.{AreDurableBeside, BeginsAs, IsDurable, IsGrowth, IsMidAppend, IsSettled}
+use Rattle.log_store.specs.Store.{AreDurableBehind, BeginsAs, IsDurable, IsGrowth, IsMidAppend, IsSettled}
 use Rattle.log_store.proofs.Runs.{at_end, then_on, weaker}
 use Rattle.log_store.proofs.Stages.{both-torn, both-whole, end-log, end-torn, end-whole, kept-early, kept-late, slot-torn, slot-whole, HasEnd, HasSlot, IsLate}
 use Rattle.log_store.proofs.Tearing.{both-settled, end-written, first-inside, growing, more-inside, more-keeps, second-inside, slot-written, third-inside, Growing}
@@ -294,7 +294,7 @@ module _ (g : _) (c : After-write_durably-2 g) {leaves more : List Digest} (give
           (IsMidAppend leaves more (g.D.Disk.seen c.args.disk.now)) _ (slot.run durable) run-both
           (λ left late. late.mid)
 
-      both-kept : AreDurableBeside leaves more (g.D.Disk.seen c.write_durably-2.new.disk)
+      both-kept : AreDurableBehind leaves more (g.D.Disk.seen c.write_durably-2.new.disk)
           (g.D.Disk.may_leave c.write_durably-2.new.disk)
       both-kept = kept-late (grown given) root slot.root-is (g.D.Disk.seen c.write_durably-2.new.disk)
           (g.D.Disk.may_leave c.write_durably-2.new.disk) both-read

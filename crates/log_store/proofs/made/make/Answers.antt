@@ -1,4 +1,4 @@
-use Rattle.std.proofs.Common.{◌≡◌, ℕ, List, ◌++◌, [], length, take, drop, refl, sym, ◌∙◌, subst, inl, ap, arith}
+use Rattle.std.proofs.Common.{◌≡◌, ℕ, List, ◌++◌, [], length, take, drop, refl, sym, ◌∙◌, subst, inl, inr, ap, arith}
 use Rattle.sha2.specs.Sha256.{sha256}
 use Rattle.ark_paths.specs.Pair.{Digest}
 use Rattle.log_file.specs.LogFile.{file_end, slot, title, written, IsLogFile}
@@ -58,9 +58,9 @@ parts-left g c obeys parts =
 
 pub returns-in_err-is_begun-clause-any_moment : goal.returns-in_err-is_begun-clause-any_moment
 returns-in_err-is_begun-clause-any_moment g c = λ obeys leaves log.
-    let part = take 64 (drop 32 (g.D.Disk.seen c.args.disk.now)) in
-    begun g.D.Disk c.args.disk.now (After (Torn 32 part) (g.D.Disk.may_leave c.args.disk.now))
-    (λ left since. (left, g.met.D.Disk.only_now c.args.disk.now left since, torn-not 32 part left left refl))
+    let part = take 96 (g.D.Disk.seen c.args.disk.now) in
+    begun g.D.Disk c.args.disk.now (After (Torn 0 part) (g.D.Disk.may_leave c.args.disk.now))
+    (λ left since. (left, g.met.D.Disk.only_now c.args.disk.now left since, torn-not 0 part left left refl))
 
 pub returns-in_err-is_begun-clause-begun : goal.returns-in_err-is_begun-clause-begun
 returns-in_err-is_begun-clause-begun g c = λ obeys none parts.
@@ -83,9 +83,9 @@ pub returns-in-Ok-clause-any_moment : goal.returns-in-Ok-clause-any_moment
 returns-in-Ok-clause-any_moment g c = λ obeys leaves log.
     absurd (no_log g (goal.at.returns-in-Ok-clause-any_moment g c).After-write_durably obeys leaves log)
 
-pub returns-in-Ok-clause-kept_beside : goal.returns-in-Ok-clause-kept_beside
-returns-in-Ok-clause-kept_beside g c = λ obeys leaves log kept.
-    absurd (no_log g (goal.at.returns-in-Ok-clause-kept_beside g c).After-write_durably obeys leaves log)
+pub returns-in-Ok-clause-kept_behind : goal.returns-in-Ok-clause-kept_behind
+returns-in-Ok-clause-kept_behind g c = λ obeys leaves log kept.
+    absurd (no_log g (goal.at.returns-in-Ok-clause-kept_behind g c).After-write_durably obeys leaves log)
 
 pub returns-in-Err-clause-others : goal.returns-in-Err-clause-others
 returns-in-Err-clause-others g c = λ obeys.
@@ -103,18 +103,69 @@ pub returns-in-Err-clause-any_moment : goal.returns-in-Err-clause-any_moment
 returns-in-Err-clause-any_moment g c = λ obeys leaves log.
     absurd (no_log g (goal.at.returns-in-Err-clause-any_moment g c).After-write_durably obeys leaves log)
 
-pub returns-in-Err-clause-kept_beside : goal.returns-in-Err-clause-kept_beside
-returns-in-Err-clause-kept_beside g c = λ obeys leaves log kept.
-    absurd (no_log g (goal.at.returns-in-Err-clause-kept_beside g c).After-write_durably obeys leaves log)
+pub returns-in-Err-clause-kept_behind : goal.returns-in-Err-clause-kept_behind
+returns-in-Err-clause-kept_behind g c = λ obeys leaves log kept.
+    absurd (no_log g (goal.at.returns-in-Err-clause-kept_behind g c).After-write_durably obeys leaves log)
 
 pub returns-in-Ok-clause-durable : goal.returns-in-Ok-clause-durable
 returns-in-Ok-clause-durable g c = λ obeys leaves log kept.
     absurd (no_log g (goal.at.returns-in-Ok-clause-durable g c).After-write_durably obeys leaves log)
 
-pub returns-in-Ok-rewrite_slots-clause-kept_beside : goal.returns-in-Ok-rewrite_slots-clause-kept_beside
-returns-in-Ok-rewrite_slots-clause-kept_beside g c = λ obeys leaves log kept.
-    c.rewrite_slots.ensures.kept obeys (length leaves) kept
+pub returns-in-Ok-rewrite_head-clause-kept_behind : goal.returns-in-Ok-rewrite_head-clause-kept_behind
+returns-in-Ok-rewrite_head-clause-kept_behind g c = λ obeys leaves log kept.
+    c.rewrite_head.ensures.kept obeys (length leaves) kept
 
-pub returns-in-Err-rewrite_slots-clause-kept_beside : goal.returns-in-Err-rewrite_slots-clause-kept_beside
-returns-in-Err-rewrite_slots-clause-kept_beside g c = λ obeys leaves log kept.
-    c.rewrite_slots.ensures.kept obeys (length leaves) kept
+pub returns-in-Err-rewrite_head-clause-kept_behind : goal.returns-in-Err-rewrite_head-clause-kept_behind
+returns-in-Err-rewrite_head-clause-kept_behind g c = λ obeys leaves log kept.
+    c.rewrite_head.ensures.kept obeys (length leaves) kept
+
+pub returns-in_err-is_begun-clause-others_moment : goal.returns-in_err-is_begun-clause-others_moment
+returns-in_err-is_begun-clause-others_moment g c = λ obeys.
+    let part = take 96 (g.D.Disk.seen c.args.disk.now) in
+    inr (begun g.D.Disk c.args.disk.now (After (Torn 0 part) (g.D.Disk.may_leave c.args.disk.now))
+    (λ left since. (left, g.met.D.Disk.only_now c.args.disk.now left since, torn-not 0 part left left refl)))
+
+-- Nothing is a part of that head.
+none-part : (file : List ℕ) → file ≡ [] → IsPartOf new_head file
+none-part file none = rw (none) (record { short = omega arith; bytes = λ n less. absurd (omega arith) })
+
+pub returns-in_err-is_begun-clause-left : goal.returns-in_err-is_begun-clause-left
+returns-in_err-is_begun-clause-left g c = λ obeys none. none-part (g.D.Disk.seen c.args.disk.now) none
+
+pub returns-in-Ok-clause-others_moment : goal.returns-in-Ok-clause-others_moment
+returns-in-Ok-clause-others_moment g c = λ obeys.
+    inl (part-of g (goal.at.returns-in-Ok-clause-others_moment g c).After-write_durably obeys)
+
+pub returns-in-Ok-clause-left : goal.returns-in-Ok-clause-left
+returns-in-Ok-clause-left g c = λ obeys none.
+    part-torn (g.D.Disk.seen c.args.disk.now) (g.D.Disk.seen c.write_durably.new.disk)
+    (none-part (g.D.Disk.seen c.args.disk.now) none)
+    (subst (λ h. Torn 0 h (g.D.Disk.seen c.args.disk.now) (g.D.Disk.seen c.write_durably.new.disk))
+    (head-of g (goal.at.returns-in-Ok-clause-left g c).After-write_durably)
+    (c.write_durably.ensures.torn obeys (omega arith)))
+
+pub returns-in-Err-clause-others_moment : goal.returns-in-Err-clause-others_moment
+returns-in-Err-clause-others_moment g c = λ obeys.
+    inl (part-of g (goal.at.returns-in-Err-clause-others_moment g c).After-write_durably obeys)
+
+pub returns-in-Err-clause-left : goal.returns-in-Err-clause-left
+returns-in-Err-clause-left g c = λ obeys none.
+    part-torn (g.D.Disk.seen c.args.disk.now) (g.D.Disk.seen c.write_durably.new.disk)
+    (none-part (g.D.Disk.seen c.args.disk.now) none)
+    (subst (λ h. Torn 0 h (g.D.Disk.seen c.args.disk.now) (g.D.Disk.seen c.write_durably.new.disk))
+    (head-of g (goal.at.returns-in-Err-clause-left g c).After-write_durably)
+    (c.write_durably.ensures.torn obeys (omega arith)))
+
+pub returns-in-Ok-rewrite_head-clause-others_moment : goal.returns-in-Ok-rewrite_head-clause-others_moment
+returns-in-Ok-rewrite_head-clause-others_moment g c = λ obeys. inr (c.rewrite_head.ensures.any_moment obeys)
+
+pub returns-in-Ok-rewrite_head-clause-left : goal.returns-in-Ok-rewrite_head-clause-left
+returns-in-Ok-rewrite_head-clause-left g c = λ obeys none.
+    none-part (g.D.Disk.seen c.rewrite_head.new.disk) (c.rewrite_head.ensures.same obeys ∙ none)
+
+pub returns-in-Err-rewrite_head-clause-others_moment : goal.returns-in-Err-rewrite_head-clause-others_moment
+returns-in-Err-rewrite_head-clause-others_moment g c = λ obeys. inr (c.rewrite_head.ensures.any_moment obeys)
+
+pub returns-in-Err-rewrite_head-clause-left : goal.returns-in-Err-rewrite_head-clause-left
+returns-in-Err-rewrite_head-clause-left g c = λ obeys none.
+    none-part (g.D.Disk.seen c.rewrite_head.new.disk) (c.rewrite_head.ensures.same obeys ∙ none)

@@ -7,17 +7,17 @@ use Rattle.log_file.specs.LogFile.{file_end, written}
 use Rattle.log_file.proofs.Files.{known}
 use Rattle.log_file.proofs.Pieces.{behind-written, piece-before, piece-written}
 use Rattle.log_store.specs.Disk.{After, LeavesMore, LeavesOnly, Torn}
-use Rattle.log_store.specs.Store.{BeginsAs, IsBesideSlots}
-use Rattle.log_store.proofs.Mixing.{beside-cut, beside-then}
+use Rattle.log_store.specs.Store.{BeginsAs, HasDigestsOf}
+use Rattle.log_store.proofs.Mixing.{digests-cut, digests-then}
 use Rattle.log_store.proofs.Runs.{at_end, begun, goes_on, weaker}
 use Rattle.log_store.proofs.Stages.{begins-of}
 use Rattle.log_store.proofs.Writes.{piece-of, torn-itself, torn-not}
-use Rattle.log_store.proofs.again.rewrite_slots.Goals.{Start}
-use Rattle.log_store.proofs.again.rewrite_slots.Goals as goal
+use Rattle.log_store.proofs.again.rewrite_head.Goals.{Start}
+use Rattle.log_store.proofs.again.rewrite_head.Goals as goal
 
--- the two slots
-part-long : (file part : List ℕ) → 96 ≤ length file → part ≡ take 64 (drop 32 file) → length part ≡ 64
-part-long file part long is = ap length is ∙ length-take-le 64 (drop 32 file) (omega (arith, length-drop 32 file))
+-- the head
+part-long : (file part : List ℕ) → 96 ≤ length file → part ≡ take 96 file → length part ≡ 96
+part-long file part long is = ap length is ∙ length-take-le 96 file long
 
 -- A file that begins as another of so many bytes has them.
 long-as : (m : ℕ) (file before : List ℕ) → m ≤ length file → take m before ≡ take m file → m ≤ length before
@@ -30,43 +30,37 @@ long-as m file before long is = elim (cases_lt (length before) m) [
   | inr ge ↦ omega arith
 ]
 
--- What is left once the slots were written is the log.
-written-begins : (size : ℕ) (file part before left : List ℕ) → 96 ≤ length file → part ≡ take 64 (drop 32 file)
-    → take 32 before ≡ take 32 file
-    → take (32 * stored_count size) (drop 96 before) ≡ take (32 * stored_count size) (drop 96 file)
-    → left ≡ written before 32 part → BeginsAs size file left
-written-begins size file part before left long is title digests left-is =
+-- What is left once the head was written is the log.
+written-begins : (size : ℕ) (file part before left : List ℕ) → 96 ≤ length file → part ≡ take 96 file
+    → HasDigestsOf size file before → left ≡ written before 0 part → BeginsAs size file left
+written-begins size file part before left long is digests left-is =
     let count = part-long file part long is in
-    let inside = long-as 32 file before (omega (arith, long)) title in
-    subst (BeginsAs size file) (sym left-is) (begins-of size file (written before 32 part)
-    (piece-before before part 32 0 32 (omega arith) inside ∙ title)
-    (piece-written before part 32 64 count inside ∙ is)
-    (ap (take (32 * stored_count size)) (behind-written before part 32 96 (omega (arith, count)) inside) ∙ digests))
+    subst (BeginsAs size file) (sym left-is) (begins-of size file (written before 0 part)
+    (piece-written before part 0 96 count (omega arith) ∙ is)
+    (ap (take (32 * stored_count size)) (behind-written before part 0 96 (omega (arith, count)) (omega arith))
+    ∙ digests))
 
--- Slots that are mixed with themselves are the same.
+-- A head that is mixed with itself is the same.
 unmoved : (size : ℕ) (file before left : List ℕ) → 96 ≤ length file → BeginsAs size file before
-    → Torn 32 (take 64 (drop 32 file)) before left → BeginsAs size file left
+    → Torn 0 (take 96 file) before left → BeginsAs size file left
 unmoved size file before left long begins torn =
-    let part = take 64 (drop 32 file) in
+    let part = take 96 file in
     let count = part-long file part long refl in
-    let own : part ≡ take 64 (drop 32 before) =
-    sym (piece-of (file_end size) 32 64 before file (omega arith) begins) in
-    let inside : 96 ≤ length before = long-as 96 file before long (piece-of (file_end size) 0 96 before file
-    (omega arith)
-    begins) in
-    subst (BeginsAs size file) (sym (torn-itself 32 64 part before left (omega (arith, inside)) count own torn)) begins
+    let own : part ≡ take 96 before = sym (piece-of (file_end size) 0 96 before file (omega arith) begins) in
+    let inside : 96 ≤ length before = long-as 96 file before long (sym own) in
+    subst (BeginsAs size file) (sym (torn-itself 0 96 part before left (omega (arith, inside)) count own torn)) begins
 
 -- Before the first call, and behind one that changes nothing.
 abbrev Mixes : (g : _) → Start g → List ℕ → Type 0
 Mixes g a left =
-    After (Torn 32 (take 64 (drop 32 (g.D.Disk.seen a.args.disk.now)))) (g.D.Disk.may_leave a.args.disk.now) left
+    After (Torn 0 (take 96 (g.D.Disk.seen a.args.disk.now))) (g.D.Disk.may_leave a.args.disk.now) left
 
 still : (g : _) (a : Start g)
     → LeavesOnly g.D.Disk.moment g.D.Disk.left_since a.args.disk.now a.args.disk.now (Mixes g a)
 still g a =
-    let part = take 64 (drop 32 (g.D.Disk.seen a.args.disk.now)) in
+    let part = take 96 (g.D.Disk.seen a.args.disk.now) in
     begun g.D.Disk a.args.disk.now (Mixes g a)
-    (λ left since. (left, g.met.D.Disk.only_now a.args.disk.now left since, torn-not 32 part left left refl))
+    (λ left since. (left, g.met.D.Disk.only_now a.args.disk.now left since, torn-not 0 part left left refl))
 
 pub returns-in_err-count-clause-any_moment : goal.returns-in_err-count-clause-any_moment
 returns-in_err-count-clause-any_moment g c = λ obeys. still g (goal.at.returns-in_err-count-clause-any_moment g c).Start
@@ -77,14 +71,14 @@ returns-in_err-read_at-clause-any_moment g c = λ obeys. still g (goal.at.return
 
 pub returns-then-count-lt-START-clause-any_moment : goal.returns-then-count-lt-START-clause-any_moment
 returns-then-count-lt-START-clause-any_moment g c = λ obeys.
-    let part = take 64 (drop 32 (g.D.Disk.seen c.args.disk.now)) in
+    let part = take 96 (g.D.Disk.seen c.args.disk.now) in
     goes_on g.D.Disk c.args.disk.now c.args.disk.now c.sync.new.self (Mixes g
     (goal.at.returns-then-count-lt-START-clause-any_moment g c).Start) (still g
     (goal.at.returns-then-count-lt-START-clause-any_moment g c).Start)
     (c.sync.ensures.time obeys) (λ left now. (
       left,
       c.sync.ensures.crash obeys left now,
-      torn-not 32 part left left
+      torn-not 0 part left left
           refl,
     ))
 
@@ -95,7 +89,7 @@ returns-clause-any_moment g c = λ obeys.
     let long : 96 ≤ length file = omega (arith, c.in_ok-count.ensures early, c.if-count-lt-START.false) in
     let is = c.in_ok-read_at.ensures early (omega (arith, long)) in
     subst (λ part. LeavesOnly g.D.Disk.moment g.D.Disk.left_since c.args.disk.now c.write_durably.new.disk
-    (After (Torn 32 part) (g.D.Disk.may_leave c.args.disk.now))) is
+    (After (Torn 0 part) (g.D.Disk.may_leave c.args.disk.now))) is
     (c.write_durably.ensures.any_moment obeys (omega (arith, long)))
 
 pub returns-clause-same : goal.returns-clause-same
@@ -104,7 +98,7 @@ returns-clause-same g c = λ obeys.
     let file = g.D.Disk.seen c.args.disk.now in
     let long : 96 ≤ length file = omega (arith, c.in_ok-count.ensures early, c.if-count-lt-START.false) in
     let is = c.in_ok-read_at.ensures early (omega (arith, long)) in
-    torn-itself 32 64 c.read_at.new.into file (g.D.Disk.seen c.write_durably.new.disk) (omega (arith, long))
+    torn-itself 0 96 c.read_at.new.into file (g.D.Disk.seen c.write_durably.new.disk) (omega (arith, long))
     (part-long file c.read_at.new.into long is) is (c.write_durably.ensures.torn obeys (omega (arith, long)))
 
 pub returns-then-count-lt-START-clause-durable : goal.returns-then-count-lt-START-clause-durable
@@ -119,24 +113,24 @@ returns-clause-durable g c = λ obeys leaves log kept.
     let part = c.read_at.new.into in
     let long = (known leaves file log).head.long in
     let is = c.in_ok-read_at.ensures early (omega (arith, long)) in
-    known_if_ok c.write_durably.result (λ (follows : LeavesMore (λ before left. left ≡ written before 32 part)
+    known_if_ok c.write_durably.result (λ (follows : LeavesMore (λ before left. left ≡ written before 0 part)
     (g.D.Disk.may_leave c.args.disk.now) (g.D.Disk.may_leave c.write_durably.new.disk)). λ left now.
     let from = follows left now in
     subst (λ f. BeginsAs (length leaves) f left) (sym (returns-clause-same g c obeys))
-    (written-begins (length leaves) file part from.0 left long is (kept from.0 from.1).title
-    (kept from.0 from.1).digests from.2)) (c.write_durably.ensures.durable obeys (omega (arith, long)))
+    (written-begins (length leaves) file part from.0 left long is (kept from.0 from.1) from.2))
+    (c.write_durably.ensures.durable obeys (omega (arith, long)))
 
--- what a crash leaves of the title and the digests
-beside-mixed : (size : ℕ) (file before left : List ℕ) → 96 ≤ length file → IsBesideSlots size file before
-    → Torn 32 (take 64 (drop 32 file)) before left → IsBesideSlots size file left
-beside-mixed size file before left long beside torn =
-    let part = take 64 (drop 32 file) in
-    beside-then size file before left beside (beside-cut size 32 (length part) before left (omega arith)
+-- what a crash leaves of the digests
+digests-mixed : (size : ℕ) (file before left : List ℕ) → 96 ≤ length file → HasDigestsOf size file before
+    → Torn 0 (take 96 file) before left → HasDigestsOf size file left
+digests-mixed size file before left long digests torn =
+    let part = take 96 file in
+    digests-then size file before left digests (digests-cut size 0 (length part) before left
     (omega (arith, part-long file part long refl)) torn.cut)
 
 pub returns-then-count-lt-START-clause-kept : goal.returns-then-count-lt-START-clause-kept
 returns-then-count-lt-START-clause-kept g c = λ obeys size kept left now.
-    subst (λ f. IsBesideSlots size f left) (sym (c.sync.ensures.same obeys))
+    subst (λ f. HasDigestsOf size f left) (sym (c.sync.ensures.same obeys))
     (kept left (c.sync.ensures.crash obeys left now))
 
 pub returns-clause-kept : goal.returns-clause-kept
@@ -147,8 +141,8 @@ returns-clause-kept g c = λ obeys size kept left now.
     let from = at_end g.D.Disk c.args.disk.now c.write_durably.new.disk
     (Mixes g (goal.at.returns-clause-kept g c).Start)
     (returns-clause-any_moment g c obeys) (g.met.D.Disk.counts_now c.write_durably.new.disk) left now in
-    subst (λ f. IsBesideSlots size f left) (sym (returns-clause-same g c obeys))
-    (beside-mixed size file from.0 left long (kept from.0 from.1) from.2)
+    subst (λ f. HasDigestsOf size f left) (sym (returns-clause-same g c obeys))
+    (digests-mixed size file from.0 left long (kept from.0 from.1) from.2)
 
 -- where nothing is doubtful
 harmless : (g : _) (a : Start g) (new : _) (size : ℕ) → 96 ≤ length (g.D.Disk.seen a.args.disk.now)
