@@ -70,8 +70,6 @@ growing {leaves} {more} {file} {bytes} {second} growth = record {
   some = growth.some;
 }
 
--- how long a slot and its front are
-
 -- the other slot
 twice_not : (b : Bool) → not (not b) ≡ b
 twice_not true = refl
