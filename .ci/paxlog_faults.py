@@ -112,7 +112,7 @@ def is_cut_off(room, names, digests):
 def is_not_taken_back(room, names, digests):
     """A sync of the log's file is refused, as Linux refuses it: what was written stays readable and is not durable, whatever later syncs say.
     What is signed or acknowledged afterwards is what a power failure leaves."""
-    log, image, key, library = room + "/doubtful", room + "/image", room + "/doubtful-key", room + "/lost_pages.so"
+    log, image, key, library = room + "/taken-back", room + "/image", room + "/taken-back-key", room + "/lost_pages.so"
     subprocess.run(["cc", "-O2", "-shared", "-fPIC", "-o", library, TOP + "/.ci/lost_pages.c", "-ldl"], check=True)
     ask("keygen", "l.example/log", key)
 
@@ -121,7 +121,7 @@ def is_not_taken_back(room, names, digests):
         ran = subprocess.run([PROGRAM, *words], env=given, stdout=subprocess.PIPE, stderr=subprocess.PIPE)
         return ran.returncode, ran.stdout.decode()
 
-    folder = room + "/doubtful-tiles"
+    folder = room + "/taken-back-tiles"
     for refuses in range(1, 5):
         size = 5 if refuses < 3 else 6
         after = [size, root(digests[:size]).hex()]
@@ -148,6 +148,30 @@ def is_not_taken_back(room, names, digests):
             check("%s behind sync %d holds" % (" ".join(words[:3]) or "nothing", refuses), whole or before and not words)
             check("and is whole", ask("check", log) == (0, "yes\n", ""))
             shutil.rmtree(folder, ignore_errors=True)
+    # the head of a new log
+    for words in (["append", log, names[5]], ["append", log, names[5], names[6]]):
+        os.remove(log)
+        write(image, b"")
+        check("the sync of a new log is refused", on_the_disk(1, "append", log, names[0]) == (6, ""))
+        check("and it is read", ask("root", log) == (0, "0 %s\n" % root([]).hex(), ""))
+        check("an append behind it", on_the_disk(0, *words) == (0, "%d\n" % (len(words) - 2)))
+        os.rename(image, log)
+        check("and holds", ask("check", log) == (0, "yes\n", "") and ask("root", log)[1] == "%d %s\n" % (
+            len(words) - 2, root(digests[5 : len(words) + 3]).hex()
+        ))
+    # the sync of one append, and then that of another
+    told = {"%d %s\n" % (size, root(digests[:size]).hex()) for size in (5, 6)}
+    told.add("6 %s\n" % root([*digests[:5], digests[6]]).hex())
+    told.add("7 %s\n" % root(digests[:7]).hex())
+    for first in range(1, 5):
+        for second in range(1, 5):
+            for place in (log, image):
+                write(place, file_of(digests[:5]))
+            check("sync %d is refused" % first, on_the_disk(first, "append", log, names[5])[0] in (6, 7))
+            check("and then sync %d" % second, on_the_disk(second, "append", log, names[6])[0] in (6, 7))
+            os.rename(image, log)
+            check("syncs %d and %d lose nothing" % (first, second), ask("root", log)[1] in told)
+            check("and leave it whole", ask("check", log) == (0, "yes\n", ""))
     for place in (log, key, library):
         os.remove(place)
 

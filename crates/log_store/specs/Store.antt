@@ -28,7 +28,7 @@ IsHeadless file = (i : ℕ) → i < 96 → get_or file i 0 ≡ 0
 abbrev pub BeginsAs : ℕ → List ℕ → List ℕ → Type 0
 BeginsAs size file left = take (file_end size) left ≡ take (file_end size) file
 
--- Nothing of the log of this size is doubtful: a crash leaves its head and its digests as they are in this file.
+-- The log of this size is durable: a crash leaves its head and its digests as they are in this file.
 abbrev pub IsDurable : ℕ → List ℕ → (List ℕ → Type 0) → Type 0
 IsDurable size file may_leave = (left : List ℕ) → may_leave left → BeginsAs size file left
 
@@ -47,8 +47,8 @@ abbrev pub SaysLarger : ℕ → ℕ → List ℕ → Type 0
 SaysLarger size new file =
     (other : ℕ) × (second : Bool) × (file_head file ≡ Some (other, second)) × (size < other) × (other ≢ new)
 
--- A slot says such a size by chance: the front of each of the two has at each byte what stood in the file, or that of the
--- new size.
+-- A slot says such a size by chance: the front of each of the two has at each byte what stood in the file, or that of
+-- the new size.
 pub record IsForged (size new : ℕ) (file left : List ℕ) : Type 0 where
   pub says : SaysLarger size new left
   pub mixed : (second : Bool)

@@ -33,7 +33,7 @@ pub fn rewrite_head<D: Disk>(disk: &mut D) -> Result<(), D::Refusal>
         → IsDurableBehind size (D.seen disk.old) (D.may_leave disk.old)
         → IsDurableBehind size (D.seen disk.new) (D.may_leave disk.new) }
 
-    // Where nothing of the log is doubtful a crash at any moment leaves it.
+    // Where the log is durable a crash at any moment leaves it.
     ensures harmless { D.Obeys disk.new → (leaves : List Digest)
         → IsLogFile leaves (D.seen disk.old)
         → IsDurable (length leaves) (D.seen disk.old) (D.may_leave disk.old)

@@ -89,8 +89,8 @@ fn is_near(size: usize) -> bool
     stored_count(size) <= 576460752303423480
 }
 
-/// Appends entries with these digests, one at least, to the log of a file, and returns the new size. Nothing of the log may be
-/// doubtful, so `make` or `rewrite_head` comes first, and again after an error. It reads the head and at most 128 digests.
+/// Appends entries with these digests, one at least, to the log of a file, and returns the new size. The log has to be durable,
+/// so `make` or `rewrite_head` comes first, and again after an error. It reads the head and at most 128 digests.
 ///
 /// Errors: those of `read_head`, `Damaged`, `Size` for a new size of over 63 bits, `Memory`, also for a size with more bytes
 /// than a file has, after which nothing was written; the disk's refusal, after which the file is that of the log before or
@@ -105,6 +105,7 @@ pub fn append<D: Disk>(
     ensures refused { let file = D.seen disk.old in
         let size = appended_size file (length digests.now) in
         D.Obeys disk.new → IsRefusedFor file size result }
+
     // Behind a fault nothing was written.
     ensures unwritten { D.Obeys disk.new → OnFault result ((D.seen disk.new ≡ D.seen disk.old)
         × ((left : List ℕ) → D.may_leave disk.new left → D.may_leave disk.old left)) }
@@ -175,6 +176,7 @@ pub fn append_after<D: Disk>(
     ensures obeys { D.Obeys disk.new → D.Obeys disk.old }
     ensures refused { let file = D.seen disk.old in D.Obeys disk.new → IsRefusedAfter file size
         root.now (appended_size file (length digests.now)) result }
+
     // Behind a fault nothing was written.
     ensures unwritten { D.Obeys disk.new → OnFault result ((D.seen disk.new ≡ D.seen disk.old)
         × ((left : List ℕ) → D.may_leave disk.new left → D.may_leave disk.old left)) }

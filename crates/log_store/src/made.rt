@@ -76,8 +76,8 @@ fn is_begun<D: Disk>(disk: &D, head: &[u8; START]) -> Result<bool, Stop<D::Refus
 }
 
 /// Makes a file ready for appends. A file that has no byte, or no more than a part of the head of a log of no entries, gets that
-/// head. Of another one the head is written again, as it is read. It syncs either way, and behind it nothing of the log is
-/// doubtful: a crash leaves it.
+/// head. Of another one the head is written again, as it is read. It syncs either way, and behind it the log is durable:
+/// a crash leaves it.
 ///
 /// Errors: the disk's refusal.
 pub fn make<D: Disk>(disk: &mut D) -> Result<(), Stop<D::Refusal>>

@@ -144,7 +144,7 @@ returns-clause-kept g c = λ obeys size kept left now.
     subst (λ f. HasDigestsOf size f left) (sym (returns-clause-same g c obeys))
     (digests-mixed size file from.0 left long (kept from.0 from.1) from.2)
 
--- where nothing is doubtful
+-- where the log is durable
 harmless : (g : _) (a : Start g) (new : _) (size : ℕ) → 96 ≤ length (g.D.Disk.seen a.args.disk.now)
     → ((left : List ℕ) → g.D.Disk.may_leave a.args.disk.now left → BeginsAs size (g.D.Disk.seen a.args.disk.now) left)
     → LeavesOnly g.D.Disk.moment g.D.Disk.left_since a.args.disk.now new (Mixes g a)
