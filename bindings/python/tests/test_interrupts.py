@@ -271,6 +271,9 @@ class ByTimers(unittest.TestCase):
     def test_logs(self):
         self.by_timers([each for each in of_logs(folder_of(self)) if "append" in each.name or "len" in each.name])
 
+    def test_logs_of_poseidon(self):
+        self.by_timers([each for each in of_poseidon() if "append" in each.name or "root" in each.name])
+
     def test_maps_in_memory(self):
         self.by_timers(of_maps(folder_of(self), False)[:8])
 
