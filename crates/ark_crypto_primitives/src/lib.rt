@@ -2,6 +2,7 @@
 #![tactic(auto)]
 
 mod ed25519_scheme;
+mod empty_log;
 mod log_tree;
 
 pub use ark_absorb::{collect_sponge_bytes, collect_sponge_field_elements};
@@ -194,6 +195,7 @@ pub mod merkle_tree {
 
 /// Merkle logs of any size (RFC 6962 and RFC 9162), and their signed checkpoints.
 pub mod log {
+    pub use crate::empty_log::empty_root;
     pub use ark_trees::LogHasher;
     pub use merkle_log::{
         Frontier, Log, LogBinding, verify_consistency, verify_consistency_bytes, verify_inclusion,

@@ -7,16 +7,11 @@ ghost use Rattle.merkle_map.specs.Parts.{value_seen};
 ghost use Rattle.merkle_map.specs.Sha256.{sha256_map};
 
 use ark_base::error::Error;
+use ark_crypto_primitives::log::empty_root;
 use ark_trees::LogHasher;
 use merkle_log::{Log, verify_inclusion_bytes};
 use merkle_map::{KeptMap, KeyProof, Sha256Map};
 use std::alloc::Global;
-
-/// The root of a log of no entries: SHA-256 of no bytes.
-const NO_ENTRIES: [u8; 32] = [
-    0xe3, 0xb0, 0xc4, 0x42, 0x98, 0xfc, 0x1c, 0x14, 0x9a, 0xfb, 0xf4, 0xc8, 0x99, 0x6f, 0xb9, 0x24,
-    0x27, 0xae, 0x41, 0xe4, 0x64, 0x9b, 0x93, 0x4c, 0xa4, 0x95, 0x99, 0x1b, 0x78, 0x52, 0xb8, 0x55,
-];
 
 /// A map, and the log of the roots that it had.
 #[derive(Drop)]
@@ -37,7 +32,7 @@ impl Directory {
     pub fn new(alloc: Global) -> Directory {
         Directory {
             map: KeptMap::new(Sha256Map::new()),
-            versions: Log::new(alloc, LogHasher, NO_ENTRIES),
+            versions: Log::new(alloc, LogHasher, empty_root()),
         }
     }
 
