@@ -1,17 +1,15 @@
-use Rattle.std.proofs.Common.{◌≡◌, ℕ, not, nat_lt, [], length, take, refl, subst, Result, Ok, Err, inl, inr, ap, sym, ◌∙◌, arith}
+use Rattle.std.proofs.Common.{◌≡◌, ℕ, Bool, Some, not, nat_lt, [], length, subst, Result, Ok, Err, inl, inr, ap, sym, ◌∙◌, arith}
 use Rattle.std.proofs.lemmas.Bool.{le-ltb}
 use Rattle.std.proofs.lemmas.List.{take_all}
 use Rattle.sha2.specs.Sha256.{sha256}
 use Rattle.ark_base.specs.Outcome.{◌>>=◌}
 use Rattle.ark_trees.specs.Rfc6962.{node_of}
 use Rattle.merkle_log.specs.Log.{merkle_tree_hash}
-use Rattle.log_file.specs.Faults.{only_if}
+use Rattle.log_file.specs.Faults.{log_size, only_if}
 use Rattle.log_file.specs.declared.fault.Fault.{Fault}
 use Rattle.log_file.specs.declared.fault.Fault.TheVariants.{Size}
-use Rattle.log_store.specs.Disk.{After, Torn}
 use Rattle.log_store.specs.Store.{IsDurable}
-use Rattle.log_store.proofs.Runs.{begun}
-use Rattle.log_store.proofs.Writes.{torn-not}
+use Rattle.log_file.specs.LogFile.{slot_to_take, IsLogFile}
 use Rattle.log_checkpoints.proofs.checkpoint.Goals as goal
 
 -- Where no size is named it is that of the log.
@@ -22,15 +20,16 @@ size-of-all (Err fault) size is = is
 
 pub returns-in-Ok-sign_checkpoint-clause-signed : goal.returns-in-Ok-sign_checkpoint-clause-signed
 returns-in-Ok-sign_checkpoint-clause-signed g c = λ obeys.
-    let held = c.rewrite_head.ensures.obeys obeys in
-    let size_is = size-of-all _ c.in-Ok.root.0 (c.in-Ok.ensures.size held) in
+    let same = c.rewrite_head.ensures.same obeys in
+    let size_is = size-of-all _ c.in-Ok.root.0 (c.in-Ok.ensures.size obeys) in
     record {
       size = c.in-Ok.root.0;
       root = c.in-Ok.root.1;
-      size_is = size_is;
-      stated = c.in-Ok.ensures.states held size_is;
+      size_is = subst (λ f. log_size f ≡ Ok c.in-Ok.root.0) same size_is;
+      stated = subst (λ f. (second : Bool) × (slot_to_take f c.in-Ok.root.0 c.in-Ok.root.1 ≡ Some second)) same
+          (c.in-Ok.ensures.states obeys size_is);
       root_is = λ leaves is.
-          let own = c.in-Ok.ensures.root held leaves is in (
+          let own = c.in-Ok.ensures.root obeys leaves (subst (IsLogFile leaves) (sym same) is) in (
             sym own.0,
             ap (merkle_tree_hash node_of (sha256 []))
                 (sym (take_all c.in-Ok.root.0 leaves (omega (arith, own.0)))) ∙ own.2,
@@ -40,18 +39,12 @@ returns-in-Ok-sign_checkpoint-clause-signed g c = λ obeys.
 
 pub returns-in-Err-sign_checkpoint-clause-refused : goal.returns-in-Err-sign_checkpoint-clause-refused
 returns-in-Err-sign_checkpoint-clause-refused g c = λ obeys.
-    let held = c.rewrite_head.ensures.obeys obeys in
-    let size_is = size-of-all _ c.in-Ok.root.0 (c.in-Ok.ensures.size held) in
+    let size_is = subst (λ f. log_size f ≡ Ok c.in-Ok.root.0) (c.rewrite_head.ensures.same obeys)
+        (size-of-all _ c.in-Ok.root.0 (c.in-Ok.ensures.size obeys)) in
     elim c.in-Err-sign_checkpoint.ensures [
       | inl memory ↦ inl memory
       | inr refused ↦ inr (c.in-Ok.root.0, c.in-Ok.root.1, size_is, refused)
     ]
-
-pub returns-in-Err-clause-any_moment : goal.returns-in-Err-clause-any_moment
-returns-in-Err-clause-any_moment g c = λ obeys.
-    let part = take 96 (g.D.Disk.seen c.args.disk.now) in
-    begun g.D.Disk c.args.disk.now (After (Torn 0 part) (g.D.Disk.may_leave c.args.disk.now))
-    (λ left since. (left, g.met.D.Disk.only_now c.args.disk.now left since, torn-not 0 part left left refl))
 
 pub returns-in-Ok-sign_checkpoint-clause-durable : goal.returns-in-Ok-sign_checkpoint-clause-durable
 returns-in-Ok-sign_checkpoint-clause-durable g c = λ obeys leaves log kept.
