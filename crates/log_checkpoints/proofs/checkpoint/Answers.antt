@@ -40,7 +40,7 @@ returns-in-Ok-sign_checkpoint-clause-signed g c = λ obeys.
 pub returns-in-Err-sign_checkpoint-clause-refused : goal.returns-in-Err-sign_checkpoint-clause-refused
 returns-in-Err-sign_checkpoint-clause-refused g c = λ obeys.
     let size_is = subst (λ f. log_size f ≡ Ok c.in-Ok.root.0) (c.rewrite_head.ensures.same obeys)
-        (size-of-all _ c.in-Ok.root.0 (c.in-Ok.ensures.size obeys)) in
+    (size-of-all _ c.in-Ok.root.0 (c.in-Ok.ensures.size obeys)) in
     elim c.in-Err-sign_checkpoint.ensures [
       | inl memory ↦ inl memory
       | inr refused ↦ inr (c.in-Ok.root.0, c.in-Ok.root.1, size_is, refused)
