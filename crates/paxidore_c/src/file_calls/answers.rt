@@ -143,7 +143,7 @@ fn with_sync(alloc: Global, plan: Vec<Step>) -> Result<Vec<Step>, NotDone>
     Ok(sync)
 }
 
-/// Returns what is to be written to a file before it is appended to: the head of a new log, or a sync alone.
+/// Returns what is to be written to a file before it is appended to: the head of a new log, or its own head again.
 pub fn made_of<F: Held>(
     alloc: Global,
     file_len: usize,
