@@ -72,6 +72,7 @@ class _File:
     def __init__(self, path: "os.PathLike[str] | str", read_only: bool, wait: float) -> None:
         self.read_only = read_only
         self.is_unknown = False
+        self.is_refused = False
         self.process = os.getpid()
         self.places = (_Piece * _PIECES)()
         self.path = os.path.abspath(path)
@@ -165,6 +166,10 @@ class _File:
         if self.read_only:
             raise io.UnsupportedOperation("the log is open for reading only")
         self.keep_name()
+        if self.is_refused:
+            # what is read may be gone after a power failure
+            self.make()
+            self.is_refused = False
         size = _size()
         steps = self.steps_of(lambda steps, pieces: _file_append(steps, ctypes.byref(size), pieces, *flat), _file_room(flat[3]))
         # until all is written, whatever cuts it off
@@ -173,7 +178,7 @@ class _File:
             self.carry_out(steps)
         except OSError:
             # what was written is no part of the log, where the file has the size that it had
-            self.is_unknown = self.is_other()
+            self.is_refused, self.is_unknown = True, self.is_other()
             raise
         self.own = size.value
         self.is_unknown = False

@@ -21,6 +21,8 @@ pub(crate) struct LogFile {
     process: u32,
     // an append failed, and whether the file has its entries is not known
     is_unknown: bool,
+    // a write or a sync was refused since the head was written last
+    is_refused: bool,
 }
 
 // How many pieces and steps are enough, as the header has them.
@@ -100,6 +102,7 @@ impl LogFile {
             reads_only: false,
             process: std::process::id(),
             is_unknown: false,
+            is_refused: false,
         };
         match file.made() {
             Ok(plan) => {
@@ -124,6 +127,7 @@ impl LogFile {
             reads_only: true,
             process: std::process::id(),
             is_unknown: false,
+            is_refused: false,
         })
     }
 
@@ -235,6 +239,12 @@ impl LogFile {
             .into());
         }
         self.keep_name()?;
+        if self.is_refused {
+            // what is read may be gone after a power failure
+            let plan = self.made()?;
+            self.carry_out(&plan)?;
+            self.is_refused = false;
+        }
         let mut size = own;
         // SAFETY: as in `made`.
         let plan = self.planned(room(flat.lengths.len()), |steps, pieces| unsafe {
@@ -249,6 +259,7 @@ impl LogFile {
             )
         })?;
         if let Err(error) = self.carry_out(&plan) {
+            self.is_refused = true;
             // what was written is no part of the log, where the file has the size that it had
             self.is_unknown = !matches!(self.size(), Ok(found) if found == own);
             return Err(error.into());
