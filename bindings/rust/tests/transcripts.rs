@@ -11,7 +11,10 @@ fn parameters() -> Vec<u8> {
 }
 
 fn elements(numbers: [u64; 2]) -> Vec<u8> {
-    numbers.iter().flat_map(|number| number.to_le_bytes()).collect()
+    numbers
+        .iter()
+        .flat_map(|number| number.to_le_bytes())
+        .collect()
 }
 
 #[test]
@@ -23,13 +26,22 @@ fn a_transcript_is_that_of_python() -> Result<(), Refused> {
     let mut copy = transcript.clone();
     let mut squeezed = [0; 16];
     transcript.squeeze(&mut squeezed)?;
-    assert_eq!(squeezed[..], elements([5518910787108351795, 16081646306617943921])[..]);
+    assert_eq!(
+        squeezed[..],
+        elements([5518910787108351795, 16081646306617943921])[..]
+    );
     let mut bytes = [0; 9];
     transcript.squeeze_bytes(&mut bytes)?;
-    assert_eq!(bytes, [0xb3, 0x05, 0x99, 0x98, 0x39, 0x91, 0x76, 0x5a, 0x6e]);
+    assert_eq!(
+        bytes,
+        [0xb3, 0x05, 0x99, 0x98, 0x39, 0x91, 0x76, 0x5a, 0x6e]
+    );
     copy.squeeze(&mut squeezed[..8])?;
     copy.squeeze(&mut squeezed[8..])?;
-    assert_eq!(squeezed[..], elements([5518910787108351795, 16081646306617943921])[..]);
+    assert_eq!(
+        squeezed[..],
+        elements([5518910787108351795, 16081646306617943921])[..]
+    );
     Ok(())
 }
 
@@ -61,7 +73,10 @@ fn clones_go_on_alone() -> Result<(), Refused> {
     let mut whole = Transcript::new(Field::Bn254Fr, &parameters)?;
     whole.absorb_bytes(b"a message")?;
     let mut out = [[0; 64]; 3];
-    for (transcript, out) in [&mut first, &mut second, &mut whole].into_iter().zip(&mut out) {
+    for (transcript, out) in [&mut first, &mut second, &mut whole]
+        .into_iter()
+        .zip(&mut out)
+    {
         transcript.squeeze(out)?;
     }
     assert_eq!(out[1], out[2]);
@@ -79,6 +94,9 @@ fn what_is_no_transcript_is_refused() -> Result<(), Refused> {
     assert!(Transcript::new(Field::Goldilocks, &parameters[1..]).is_err());
     assert!(Transcript::new(Field::Bn254Fr, &parameters).is_err());
     parameters.push(0);
-    assert_eq!(Transcript::new(Field::Goldilocks, &parameters).err(), Some(Refused::Invalid));
+    assert_eq!(
+        Transcript::new(Field::Goldilocks, &parameters).err(),
+        Some(Refused::Invalid)
+    );
     Ok(())
 }
