@@ -87,13 +87,13 @@ pub use Rattle.ark_paths.specs.Rows.{IsTree, digests_of, rows_seen}
 pub use Rattle.ark_paths.specs.Tree.{HashedTree, HoldsLeaf, IsAccepted, Tree, halves_beside, path_in, root_in}
 pub use Rattle.ark_paths.specs.Tree.{tree_above, tree_of, tree_with}
 -- logs
-pub use Rattle.merkle_log.specs.Append.{HasLeaf, HasLeaves, IsWholeList, KeepsSizes, Refuses, pair_count}
+pub use Rattle.merkle_log.specs.Append.{HasLeaf, HasLeaves, IsWholeList, KeepsSizes, RefusesLeaves, RefusesRow, pair_count}
 pub use Rattle.merkle_log.specs.Bind.{BindsDigest, BindsFront, BindsLogLeaf, IsConsistency, IsInclusion}
 pub use Rattle.merkle_log.specs.Bind.{IsLeafInclusion, StandsOrPathCollides}
 pub use Rattle.merkle_log.specs.Binding.{HighestIn, IsHighest, LeafHighestIn, is_accepted, leaf_verdict_in, verdict_in}
 pub use Rattle.merkle_log.specs.Collision.{HistoriesCollide, PathCollidesAt}
 pub use Rattle.merkle_log.specs.Edge.{all_of, root_pairs}
-pub use Rattle.merkle_log.specs.Frontier.{FrontierValue, IsFrontier, frontier_in}
+pub use Rattle.merkle_log.specs.Frontier.{FrontierValue, IsFrontier, RefusesPeak, frontier_in}
 pub use Rattle.merkle_log.specs.Log.{LogValue, both_levels, consistency_path, inclusion_path, merkle_tree_hash, root_at}
 pub use Rattle.merkle_log.specs.Log.{with_more}
 pub use Rattle.merkle_log.specs.Received.{ShowsFront, ShowsLogLeaf, consistency_length, digests_in, inclusion_length}

@@ -127,9 +127,6 @@ module _ {leaves more : List Digest} {file bytes : List ℕ} {second : Bool} (gr
   pub first-inside : file_end (length leaves) ≤ length file
   first-inside = grow.log.holds.inside
 
-  pub free-inside : next_slot second + 20 ≤ length file
-  free-inside = omega (arith, slot-inside second, grow.log.head.long)
-
   uses-in : Uses digests-written size old_root second
   uses-in = subst (λ f. Uses f size old_root second) (sym digests-are)
       (cut-uses leaves old_root file (bytes ++ rest) grow.log.head.long grow.log.holds size old_root second uses)

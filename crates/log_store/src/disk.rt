@@ -72,8 +72,8 @@ pub trait Disk {
             (left_since self.old) (left_since self.new) (may_leave self.new) };
 
     // A crash at this moment is one since each moment before.
-    ghost counts_now: { (disk : Self) (t : ℕ) (left : List ℕ) → t ≤ moment disk → may_leave disk left
-        → left_since disk t left };
+    ghost counts_now: { (disk : Self) (t : ℕ) (left : List ℕ) → t ≤ moment disk
+        → may_leave disk left → left_since disk t left };
 
     // Since this moment there is no other.
     ghost only_now: { (disk : Self) (left : List ℕ) → left_since disk (moment disk) left

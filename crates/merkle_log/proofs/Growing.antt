@@ -1,12 +1,16 @@
 -- A log's list with one leaf more.
-use Rattle.std.proofs.Common.{◌≡◌, ◌+◌, ◌≤◌, ℕ, ◌++◌, List, [], ◌∷◌, length, take, Ok, Err, OnOk, OnErr, ap, sym, ◌∙◌, arith}
-use Rattle.std.proofs.lemmas.List.{take_all, take-take, append-nil, append_assoc}
+use Rattle.std.proofs.Common.{◌≡◌, ◌+◌, ◌≤◌, ℕ, ◌++◌, List, [], ◌∷◌, length, take, drop, Ok, Err, OnOk, OnErr, IfErr, ◌⊎◌, inl, inr, refl, ap, sym, ◌∙◌, arith}
+use Rattle.std.proofs.lemmas.List.{take_all, take-append-drop, take-take, drop-take, append-nil, append_assoc}
+use Rattle.ark_base.specs.declared.error.Error.{Error}
+use Rattle.ark_base.specs.declared.error.Error.TheVariants.{OutOfMemory}
 use Rattle.ark_base.specs.Outcome.{Outcome}
 use Rattle.ark_paths.specs.Pair.{Digest, Hashes}
-use Rattle.ark_paths.proofs.ListOutcomes.{IsSoFar, IsSoFar-none, IsSoFar-all}
+use Rattle.ark_paths.specs.Root.{all_hashes}
+use Rattle.ark_paths.proofs.Ahead.{so_far-run}
+use Rattle.ark_paths.proofs.ListOutcomes.{IsSoFar, IsSoFar-none, IsSoFar-all, each-append}
 use Rattle.merkle_log.specs.Log.{NodeHash}
 use Rattle.merkle_log.specs.Stored.{StoredValue, stored_count, row_at, IsStored}
-use Rattle.merkle_log.specs.Append.{Appends, AppendsLeaves, GrowsTo, IsWholeList}
+use Rattle.merkle_log.specs.Append.{Appends, AppendsLeaves, GrowsTo, IsWholeList, RefusesLeaves, RefusesRow}
 use Rattle.merkle_log.specs.Rising.{with_rows}
 use Rattle.merkle_log.proofs.KeptRows.{stored-same}
 use Rattle.merkle_log.proofs.Positions.{count-rises}
@@ -95,6 +99,18 @@ laid-all hash old new left digests lowest hashed laid whole extends = record {
   extends = extends;
 }
 
+-- A leaf's digest is refused, so the leaf is.
+pub leaf-refused : {A V : Type 0} (hashes : Hashes A) (old : List Digest) (leaf : A) (digest : Digest)
+    (result : Outcome V) → hashes.leaf leaf ≡ Ok digest
+    → IfErr result (λ error. (error ≡ OutOfMemory) ⊎ RefusesRow hashes.pair.upper (old ++ (digest ∷ [])) error)
+    → IfErr result (λ error. (error ≡ OutOfMemory) ⊎ (hashes.leaf leaf ≡ Err error)
+    ⊎ RefusesLeaves hashes old (leaf ∷ []) error)
+leaf-refused hashes old leaf digest (Ok v) hashed refused = tt
+leaf-refused hashes old leaf digest (Err e) hashed refused = elim refused [
+  | inl memory ↦ inl memory
+  | inr row ↦ inr (inr (record { count = 1; more = digest ∷ []; hashed = rw (hashed) refl; refused = row }))
+]
+
 -- The list has the digests of the first leaves behind.
 pub record AppendsFirst {A : Type 0} (hashes : Hashes A) (old : StoredValue) (leaves : List A) (count : ℕ)
     (new : StoredValue) : Type 0 where
@@ -102,6 +118,7 @@ pub record AppendsFirst {A : Type 0} (hashes : Hashes A) (old : StoredValue) (le
   pub extends : GrowsTo old new
   pub digests : List Digest
   pub hashed : IsSoFar hashes.leaf leaves count digests
+  pub front : all_hashes hashes.leaf (take count leaves) ≡ Ok digests
   pub first_row : row_at new 0 ≡ row_at old 0 ++ digests
 
 module _ {A : Type 0} {hashes : Hashes A} {old : StoredValue} {leaves : List A} where
@@ -111,20 +128,39 @@ module _ {A : Type 0} {hashes : Hashes A} {old : StoredValue} {leaves : List A} 
     extends = extends-itself old whole;
     digests = [];
     hashed = IsSoFar-none hashes.leaf leaves;
+    front = refl;
     first_row = sym (append-nil (row_at old 0));
   }
 
-  pub appends-run : {count : ℕ} {mid new : StoredValue} (run : ℕ) → AppendsFirst hashes old leaves count mid
-      → (more : List Digest) → ((digests : List Digest) → IsSoFar hashes.leaf leaves count digests
-      → IsSoFar hashes.leaf leaves (count + run) (digests ++ more))
-      → AppendsAll hashes.pair.upper mid more new → AppendsFirst hashes old leaves (count + run) new
-  appends-run {count} {mid} {new} run at more hashed appended = record {
-    kept = record { whole = appended.whole; stored_is = appended.stored };
-    extends = extends-more old mid new at.extends appended.extends;
-    digests = at.digests ++ more;
-    hashed = hashed at.digests at.hashed;
-    first_row = appended.first_row ∙ ap (λ l. l ++ more) at.first_row ∙ append_assoc (row_at old 0) at.digests more;
-  }
+  module _ {count : ℕ} {mid : StoredValue} (run : ℕ) (at : AppendsFirst hashes old leaves count mid)
+      (more : List Digest) (hashed : all_hashes hashes.leaf (take run (drop count leaves)) ≡ Ok more) where
+    front-more : all_hashes hashes.leaf (take (count + run) leaves) ≡ Ok (at.digests ++ more)
+    front-more =
+        let all = take (count + run) leaves in
+        ap (all_hashes hashes.leaf) (sym (take-append-drop count all)) ∙ each-append hashes.leaf (take count all)
+        (drop count all)
+        ∙ rw (take-take count (count + run) leaves (omega arith), drop-take count run leaves, at.front, hashed) refl
+
+    pub appends-run : {new : StoredValue} → AppendsAll hashes.pair.upper mid more new
+        → AppendsFirst hashes old leaves (count + run) new
+    appends-run {new} appended = record {
+      kept = record { whole = appended.whole; stored_is = appended.stored };
+      extends = extends-more old mid new at.extends appended.extends;
+      digests = at.digests ++ more;
+      hashed = so_far-run hashes.leaf leaves count run at.digests at.hashed more hashed;
+      front = front-more;
+      first_row = appended.first_row ∙ ap (λ l. l ++ more) at.first_row ∙ append_assoc (row_at old 0) at.digests more;
+    }
+
+    -- The hash refuses a pair of the list with the run behind.
+    pub appends-refused : (error : Error) → RefusesRow hashes.pair.upper (row_at mid 0 ++ more) error
+        → RefusesLeaves hashes (row_at old 0) leaves error
+    appends-refused error refused = record {
+      count = count + run;
+      more = at.digests ++ more;
+      hashed = front-more;
+      refused = rw (at.first_row, append_assoc) at refused;
+    }
 
   pub appends-all : {count : ℕ} {new : StoredValue} → AppendsFirst hashes old leaves count new → length leaves ≤ count
       → AppendsLeaves hashes old leaves new

@@ -1,16 +1,18 @@
 -- How a digest is put behind a frontier.
 use Rattle.std.proofs.Common.{suc, ◌≡◌, ℕ, ◌+◌, ◌-◌, ◌/◌, ◌%◌, ◌<◌, ◌≤◌, ◌^◌, List, [], ◌∷◌, ◌++◌, length, map, take, get_or, Ok, Err, arith, refl, ap, sym, ◌∙◌}
-use Rattle.std.proofs.lemmas.List.{length-append, length-map, map-append, take_more, take_all, same_from_push}
+use Rattle.std.proofs.lemmas.List.{length-append, length-map, map-append, take_more, take_all, same_from_push, get_or_append_left, get_or_push}
 use Rattle.std.proofs.lemmas.Nat.{zero_from_ones}
 use Rattle.std.specs.Prelude.{count_ones}
 use Rattle.ark_base.specs.declared.error.Error.{Error}
 use Rattle.ark_base.specs.Outcome.{Outcome}
-use Rattle.merkle_log.specs.Walk.{joined}
+use Rattle.merkle_log.specs.Walk.{index_up, joined}
 use Rattle.ark_paths.specs.Pair.{Digest}
 use Rattle.merkle_log.specs.Log.{NodeHash, merkle_tree_hash}
-use Rattle.merkle_log.specs.Frontier.{complete_pairs, frontier, IsFrontier}
+use Rattle.merkle_log.specs.Frontier.{complete_pairs, frontier, peak_back, IsFrontier, RefusesPeak}
 use Rattle.merkle_log.proofs.Tests.{fewer}
+use Rattle.merkle_log.proofs.Carried.{chain-more, odd-more}
 use Rattle.merkle_log.proofs.Completing.{digest-read}
+use Rattle.merkle_log.proofs.Positions.{up-more}
 use Rattle.merkle_log.proofs.Verdicts.{pow_above}
 use Rattle.merkle_log.proofs.Lasts.{Node, node_rows}
 use Rattle.merkle_log.proofs.Peaks.{length-complete_pairs, frontier-odd, frontier-push_even, frontier-push_odd, frontier-levels, folded, folded-push, root-folded}
@@ -112,6 +114,72 @@ pub frontier-more : {hash : NodeHash} {digests : List Digest} {size : ℕ} {peak
     → IsFrontier hash (digests ++ (digest ∷ [])) (size + 1) new
 frontier-more {hash} {digests} {size} {peaks} {new} digest own is =
     record { size_is = length-append digests (digest ∷ []) ∙ ap (λ n. n + 1) own.size_is; peaks_are = is }
+
+-- ---- the pairs that are hashed for it
+
+-- A digest made these of the last peaks, one behind the other, up to the last one.
+pub record MadeOf (hash : NodeHash) (size : ℕ) (peaks : List Digest) (digest : Digest) (count left : ℕ)
+    (last : Digest) : Type 0 where
+  pub level : ℕ
+  pub made : List Digest
+  pub long : length made ≡ level + 1
+  pub first : get_or made 0 [] ≡ digest
+  pub last_is : get_or made level [] ≡ last
+  pub count_is : index_up level size ≡ count
+  pub left_is : left + level ≡ length peaks
+  pub odd : (k : ℕ) → k < level → index_up k size % 2 ≡ 1
+  pub hashed : (k : ℕ) → k < level → hash (peak_back peaks k) (get_or made k []) ≡ Ok (get_or made (suc k) [])
+
+pub made-first : {hash : NodeHash} {size left : ℕ} {peaks : List Digest} {digest : Digest} → length peaks ≡ left
+    → MadeOf hash size peaks digest size left digest
+made-first {digest = digest} all = record {
+  level = 0;
+  made = digest ∷ [];
+  long = refl;
+  first = refl;
+  last_is = refl;
+  count_is = refl;
+  left_is = omega arith;
+  odd = λ k below. absurd (omega arith);
+  hashed = λ k below. absurd (omega arith);
+}
+
+module _ {hash : NodeHash} {size count left : ℕ} {peaks : List Digest} {digest last : Digest}
+    (at : MadeOf hash size peaks digest count left last) (odd : count % 2 ≡ 1) (up : ℕ) (left_is : left ≡ up + 1) where
+  here : (next : Outcome Digest) → hash (get_or peaks up []) last ≡ next
+      → hash (peak_back peaks at.level) (get_or at.made at.level []) ≡ next
+  here next is =
+      let back : length peaks - 1 - at.level ≡ up = omega (arith, at.left_is) in
+      ap (λ n. hash (get_or peaks n []) (get_or at.made at.level [])) back ∙ ap (hash (get_or peaks up [])) at.last_is
+      ∙ is
+
+  odds : (k : ℕ) → k < at.level + 1 → index_up k size % 2 ≡ 1
+  odds = odd-more (λ k. index_up k size) at.level at.odd (ap (λ n. n % 2) at.count_is ∙ odd)
+
+  pub made-next : (next : Digest) → hash (get_or peaks up []) last ≡ Ok next
+      → MadeOf hash size peaks digest (count / 2) up next
+  made-next next is = record {
+    level = at.level + 1;
+    made = at.made ++ (next ∷ []);
+    long = length-append at.made (next ∷ []) ∙ ap (λ n. n + 1) at.long;
+    first = get_or_append_left at.made (next ∷ []) [] 0 (omega (arith, at.long)) ∙ at.first;
+    last_is = get_or_push at.made next [] (at.level + 1) (omega (arith, at.long));
+    count_is = up-more at.level size ∙ ap (λ n. n / 2) at.count_is;
+    left_is = omega (arith, at.left_is);
+    odd = odds;
+    hashed = chain-more hash (peak_back peaks) at.level at.made next at.long at.hashed (here (Ok next) is);
+  }
+
+  pub made-refused : (error : Error) → hash (get_or peaks up []) last ≡ Err error
+      → RefusesPeak hash size peaks digest error
+  made-refused error is = record {
+    level = at.level;
+    made = at.made;
+    first = at.first;
+    odd = λ k le. odds k (omega arith);
+    hashed = at.hashed;
+    refused = here (Err error) is;
+  }
 
 -- ---- the root
 

@@ -10,7 +10,8 @@ use Rattle.ark_crh.specs.Ahead.{of_couple}
 use Rattle.ark_paths.specs.Pair.{Digest}
 use Rattle.ark_paths.specs.Root.{all_hashes}
 use Rattle.ark_paths.specs.Rows.{couples}
-use Rattle.merkle_log.specs.Append.{Refuses}
+use Rattle.ark_paths.proofs.ListOutcomes.{begun, begun-nil}
+use Rattle.merkle_log.specs.Append.{RefusesRow}
 use Rattle.merkle_log.specs.Log.{NodeHash}
 use Rattle.merkle_log.specs.Rising.{AreOfSize, with_rows}
 use Rattle.merkle_log.specs.Stored.{row_at, row_pairs, IsStored, StoredValue}
@@ -28,53 +29,46 @@ module _ (hash : NodeHash) where
   pairs-are (a ∷ b ∷ row) = ap (λ o. hash a b >>= λ c. o >>= λ next. Ok (c ∷ next)) (pairs-are row)
 
   -- A row with more behind it has the pairs that it had, and those that the others complete.
-  pub pairs-over : (row next more above : List Digest) → row_pairs hash row ≡ Ok next
-      → all_hashes (of_couple hash) (couples (drop (2 * (length row / 2)) row ++ more)) ≡ Ok above
-      → row_pairs hash (row ++ more) ≡ Ok (next ++ above)
-  pairs-over [] next more above is over =
-      pairs-are more ∙ over ∙ ap (λ l. Ok (l ++ above)) (done_injective {E = Error} [] next is)
-  pairs-over (a ∷ []) next more above is over =
-      pairs-are (a ∷ more) ∙ over ∙ ap (λ l. Ok (l ++ above)) (done_injective {E = Error} [] next is)
-  pairs-over (a ∷ b ∷ row) next more above is over =
+  begun-behind : (first : Digest) (row : List Digest) (more : Outcome (List Digest))
+      → (begun row more >>= λ next. Ok (first ∷ next)) ≡ begun (first ∷ row) more
+  begun-behind first row (Ok above) = refl
+  begun-behind first row (Err e) = refl
+
+  -- what the couples are hashed to that others behind a row complete
+  abbrev completed : List Digest → List Digest → Outcome (List Digest)
+  completed row more = all_hashes (of_couple hash) (couples (drop (2 * (length row / 2)) row ++ more))
+
+  pairs-over : (row next more : List Digest) → row_pairs hash row ≡ Ok next → row_pairs hash (row ++ more)
+      ≡ begun next (completed row more)
+  pairs-over [] next more is =
+      pairs-are more ∙ begun-nil (completed [] more)
+      ∙ ap (λ l. begun l (completed [] more)) (done_injective {E = Error} [] next is)
+  pairs-over (a ∷ []) next more is =
+      pairs-are (a ∷ more) ∙ begun-nil (completed (a ∷ []) more)
+      ∙ ap (λ l. begun l (completed (a ∷ []) more)) (done_injective {E = Error} [] next is)
+  pairs-over (a ∷ b ∷ row) next more is =
       let p = pairs_parts hash a b row next is in
       let two : 2 * (length (a ∷ b ∷ row) / 2) ≡ suc (suc (2 * (length row / 2))) = omega arith in
-      rw (p.2, pairs-over row p.1 more above p.3 (rw (two) at over)) (ap (λ l. Ok (l ++ above)) p.4)
-
-  refuses-next : (couple : Digest × Digest) (error : Error) (o : Outcome Digest) (others : Outcome (List Digest))
-      → hash couple.0 couple.1 ≡ o → (others ≡ Err error → Refuses hash error)
-      → (o >>= λ digest. others >>= λ digests. Ok (digest ∷ digests)) ≡ Err error → Refuses hash error
-  refuses-next couple error (Ok digest) (Ok digests) here rest is = absurd cc
-  refuses-next couple error (Ok digest) (Err e) here rest is = rest is
-  refuses-next couple error (Err e) others here rest is = record {
-    left = couple.0;
-    right = couple.1;
-    is = here ∙ cc;
-  }
-
-  -- What refuses couples refuses one of them.
-  refuses-some : (all : List (Digest × Digest)) (error : Error) → all_hashes (of_couple hash) all ≡ Err error
-      → Refuses hash error
-  refuses-some [] error is = absurd cc
-  refuses-some (couple ∷ all) error is =
-      refuses-next couple error (hash couple.0 couple.1) (all_hashes (of_couple hash) all) refl
-      (refuses-some all error) is
+      rw (two, p.2, pairs-over row p.1 more p.3) (begun-behind p.0 p.1 (completed row more)
+      ∙ ap (λ l. begun l (completed row more)) p.4)
 
   -- what the hashes of the couples say
-  module _ {R : Type 0} (view : R → List Digest) (all : List (Digest × Digest)) where
-    pub over-hashed : (row next more : List Digest) → row_pairs hash row ≡ Ok next
-        → couples (drop (2 * (length row / 2)) row ++ more) ≡ all
-        → (result : Outcome R) → AnswersBy view (all_hashes (of_couple hash) all) result
+  module _ {R : Type 0} (view : R → List Digest) (all : List (Digest × Digest)) (row next more : List Digest)
+      (is : row_pairs hash row ≡ Ok next) (same : couples (drop (2 * (length row / 2)) row ++ more) ≡ all) where
+    over-all : row_pairs hash (row ++ more) ≡ begun next (all_hashes (of_couple hash) all)
+    over-all = pairs-over row next more is ∙ ap (λ c. begun next (all_hashes (of_couple hash) c)) same
+
+    pub over-hashed : (result : Outcome R) → AnswersBy view (all_hashes (of_couple hash) all) result
         → IfOk result (λ above. row_pairs hash (row ++ more) ≡ Ok (next ++ view above))
-    over-hashed row next more is same (Ok above) answer =
-        pairs-over row next more (view above) is (ap (all_hashes (of_couple hash)) same ∙ answer)
-    over-hashed row next more is same (Err e) answer = tt
+    over-hashed (Ok above) answer = over-all ∙ ap (begun next) answer
+    over-hashed (Err e) answer = tt
 
     pub over-refused : (result : Outcome R) → AnswersBy view (all_hashes (of_couple hash) all) result
-        → IfErr result (λ error. (error ≡ OutOfMemory) ⊎ Refuses hash error)
+        → IfErr result (λ error. (error ≡ OutOfMemory) ⊎ (row_pairs hash (row ++ more) ≡ Err error))
     over-refused (Ok above) answer = tt
     over-refused (Err e) answer = elim answer [
       | inl memory ↦ inl memory
-      | inr refused ↦ inr (refuses-some all e refused)
+      | inr refused ↦ inr (over-all ∙ ap (begun next) refused)
     ]
 
   -- A row and what others put behind the one above are fewer than the row and these.
@@ -143,6 +137,19 @@ module _ {A : Type 0} {numbers : A → Digest} {hash : NodeHash} {rows : ℕ →
             ≡ risen numbers lists row l
         stays l below = ap (map numbers) (get_or_append_left (lists ++ row ∷ []) (above ∷ []) [] l
             (omega (arith, long)))
+
+    -- The hash refuses a pair of the last row and what stands before it.
+    pub rising-refused : (error : Error) → row_pairs hash (rows (length lists) ++ map numbers row) ≡ Err error
+        → RefusesRow hash (rows 0 ++ leaves) error
+    rising-refused error is = record {
+      rows = with_rows rows (risen numbers lists row);
+      level = length lists;
+      lowest = ap (λ l. rows 0 ++ l) at.lowest;
+      hashed = λ k below.
+          let e : k + 1 ≡ suc k = omega arith in
+          at.hashed k below ∙ ap (λ n. Ok (with_rows rows (risen numbers lists row) n)) e;
+      refused = ap (λ d. row_pairs hash (rows (length lists) ++ map numbers d)) (top (length lists) refl) ∙ is;
+    }
 
     -- The last row has no digests.
     module _ (none : length row ≡ 0) where

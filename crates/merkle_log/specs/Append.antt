@@ -4,7 +4,7 @@ use Rattle.ark_base.specs.declared.error.Error.{Error}
 use Rattle.ark_paths.specs.Pair.{Digest, Hashes}
 use Rattle.ark_paths.specs.Root.{all_hashes}
 use Rattle.merkle_log.specs.Log.{NodeHash, LogValue, inclusion_path, consistency_path, root_at, with_more}
-use Rattle.merkle_log.specs.Stored.{StoredValue, stored_count, row_at, IsStored}
+use Rattle.merkle_log.specs.Stored.{StoredValue, stored_count, row_at, row_pairs, IsStored}
 
 -- The digests that an appended one makes: itself, and as long as the row has an odd number, the hash of the row's last
 -- digest and the one made there, for the row above.
@@ -45,11 +45,22 @@ pub record Appends (hash : NodeHash) (old : StoredValue) (digest : Digest) (new 
   pub whole : IsWholeList new
   pub extends : GrowsTo old new
 
--- The hash of pairs has this error for some pair.
-pub record Refuses (hash : NodeHash) (error : Error) : Type 0 where
-  pub left : Digest
-  pub right : Digest
-  pub is : hash left right ≡ Err error
+-- Up to a level a list's rows have the hashes of the pairs of the row below. The pairs of that level's row have this
+-- error: that of the first pair that the hash refuses.
+pub record RefusesRow (hash : NodeHash) (digests : List Digest) (error : Error) : Type 0 where
+  pub rows : ℕ → List Digest
+  pub level : ℕ
+  pub lowest : rows 0 ≡ digests
+  pub hashed : (k : ℕ) → k < level → row_pairs hash (rows k) ≡ Ok (rows (suc k))
+  pub refused : row_pairs hash (rows level) ≡ Err error
+
+-- The first of more leaves have hashes, and the hash refuses a pair of the list with these behind.
+pub record RefusesLeaves {A : Type 0} (hashes : Hashes A) (digests : List Digest) (leaves : List A) (error : Error) :
+    Type 0 where
+  pub count : ℕ
+  pub more : List Digest
+  pub hashed : all_hashes hashes.leaf (take count leaves) ≡ Ok more
+  pub refused : RefusesRow hashes.pair.upper (digests ++ more) error
 
 -- An appended digest makes others up to a level, and there the hash refuses the pair of the row's last digest and the
 -- one that was made.

@@ -1,10 +1,11 @@
 -- The roots of the complete trees of a list, which are all that its root and its growth need.
-use Rattle.std.specs.Prelude.{count_ones, ◌≡◌, ℕ, zero, suc, ◌-◌, ◌%◌, ◌==◌, if◌then◌else◌, List, [], ◌∷◌, ◌++◌, length, map, get_or, Ok}
+use Rattle.std.specs.Prelude.{count_ones, ◌≡◌, ◌<◌, ◌≤◌, ℕ, zero, suc, ◌-◌, ◌%◌, ◌==◌, if◌then◌else◌, List, [], ◌∷◌, ◌++◌, length, map, get_or, Ok, Err}
+use Rattle.ark_base.specs.declared.error.Error.{Error}
 use Rattle.ark_base.specs.Outcome.{Outcome, ◌>>=◌}
 use Rattle.ark_base.specs.Reading.{Reading, reading_outcome}
 use Rattle.ark_base.specs.Spelling.{word_at}
 use Rattle.merkle_log.specs.Received.{digests_in}
-use Rattle.merkle_log.specs.Walk.{joined}
+use Rattle.merkle_log.specs.Walk.{index_up, joined}
 use Rattle.ark_paths.specs.Pair.{Digest}
 use Rattle.merkle_log.specs.Log.{NodeHash}
 
@@ -33,6 +34,21 @@ pub record FrontierValue (T : Type 0) : Type 0 where
 pub record IsFrontier (hash : NodeHash) (digests : List Digest) (size : ℕ) (peaks : List Digest) : Type 0 where
   pub size_is : length digests ≡ size
   pub peaks_are : (empty : Digest) → frontier (joined hash) (Ok empty) (length digests) (map Ok digests) ≡ map Ok peaks
+
+-- the last root but some
+abbrev pub peak_back : List Digest → ℕ → Digest
+peak_back peaks k = get_or peaks (length peaks - 1 - k) []
+
+-- A digest behind so many others makes more with the last roots, one behind the other, as long as the number of trees of
+-- that height is odd. There the hash refuses a pair with this error.
+pub record RefusesPeak (hash : NodeHash) (size : ℕ) (peaks : List Digest) (digest : Digest) (error : Error) :
+    Type 0 where
+  pub level : ℕ
+  pub made : List Digest
+  pub first : get_or made 0 [] ≡ digest
+  pub odd : (k : ℕ) → k ≤ level → index_up k size % 2 ≡ 1
+  pub hashed : (k : ℕ) → k < level → hash (peak_back peaks k) (get_or made k []) ≡ Ok (get_or made (suc k) [])
+  pub refused : hash (peak_back peaks level) (get_or made level []) ≡ Err error
 
 -- ---- bytes
 

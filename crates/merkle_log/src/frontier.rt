@@ -5,8 +5,7 @@ ghost use Rattle.std.specs.Prelude.{◌≡◌, ◌⊎◌, ◌<◌, ◌≤◌, �
 ghost use Rattle.ark_base.specs.declared.error.Error.TheVariants.{OutOfMemory};
 ghost use Rattle.ark_base.specs.Outcome.{Answers, AnswersBy};
 ghost use Rattle.ark_base.specs.Spelling.{word};
-ghost use Rattle.merkle_log.specs.Append.{Refuses};
-ghost use Rattle.merkle_log.specs.Frontier.{FrontierValue, IsFrontier, frontier_in, peaks_in};
+ghost use Rattle.merkle_log.specs.Frontier.{FrontierValue, IsFrontier, RefusesPeak, frontier_in, peaks_in};
 ghost use Rattle.ark_paths.specs.Pair.{Digest};
 ghost use Rattle.ark_paths.specs.Rows.{digests_of};
 ghost use Rattle.merkle_log.specs.Log.{merkle_tree_hash};
@@ -59,7 +58,8 @@ fn merge<D: DigestItem, T: TreeHasher<D, D>>(
     ensures count { IfOk result (λ merged. merged.0 + 1 ≡ count_ones (size + 1)) }
     ensures within { IfOk result (λ merged. merged.0 ≤ length peaks.now) }
     ensures refused { IfErr result (λ error. (error ≡ OutOfMemory)
-        ⊎ Refuses (T.hashes hasher.now).pair.upper error) }
+        ⊎ RefusesPeak (T.hashes hasher.now).pair.upper size (map D.numbers peaks.now)
+        (D.numbers digest) error) }
 {
     let mut last = digest;
     let mut left = peaks.len();
@@ -129,7 +129,7 @@ impl<D: DigestItem, T: TreeHasher<D, D>> Frontier<D, T> {
 
     /// Puts a digest behind the others.
     ///
-    /// Errors, which leave the frontier as it was: that of a pair; `OutOfMemory`.
+    /// Errors, which leave the frontier as it was: that of the first pair that the hash refuses; `OutOfMemory`.
     pub fn append(&mut self, alloc: Global, digest: D) -> Result<(), Error>
         requires { self.old.size + 1 < 2 ^ 64 }
 
@@ -143,7 +143,8 @@ impl<D: DigestItem, T: TreeHasher<D, D>> Frontier<D, T> {
         ensures empty { self.new.empty ≡ self.old.empty }
         ensures kept { OnErr result (self.new ≡ self.old) }
         ensures refused { IfErr result (λ error. (error ≡ OutOfMemory)
-            ⊎ Refuses ((T.hashes self.old.hasher).pair.upper) error) }
+            ⊎ RefusesPeak (T.hashes self.old.hasher).pair.upper self.old.size self.old.peaks
+            (D.numbers digest) error) }
     {
         let (left, last) = merge(alloc, &self.hasher, &self.peaks, self.size, digest)?;
         self.peaks.reserve(1)?;

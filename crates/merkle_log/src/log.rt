@@ -1,6 +1,6 @@
 //! Logs that keep the digests of their complete subtrees.
 
-ghost use Rattle.std.specs.Prelude.{◌≡◌, ◌⊎◌, ◌<◌, ◌≤◌, ◌+◌, ◌-◌, ◌^◌, ◌∷◌, ℕ, suc, List, [], true, length, map, get_or, reverse, take, IfOk, IfErr, OnOk, OnErr, Ok, Err, Some, None};
+ghost use Rattle.std.specs.Prelude.{◌≡◌, ◌⊎◌, ◌<◌, ◌≤◌, ◌+◌, ◌-◌, ◌^◌, ◌++◌, ◌∷◌, ℕ, suc, List, [], true, length, map, get_or, reverse, take, IfOk, IfErr, OnOk, OnErr, Ok, Err, Some, None};
 ghost use Rattle.ark_base.specs.declared.error.Error.TheVariants.{OutOfMemory};
 ghost use Rattle.ark_base.specs.Outcome.{AnswersBy};
 ghost use Rattle.ark_paths.specs.Index.{neighbour};
@@ -8,7 +8,7 @@ ghost use Rattle.ark_paths.specs.Pair.{Digest};
 ghost use Rattle.ark_paths.specs.Root.{all_hashes, root_of};
 ghost use Rattle.ark_paths.specs.Rows.{digests_of};
 ghost use Rattle.ark_paths.specs.Tree.{halves_beside};
-ghost use Rattle.merkle_log.specs.Append.{AppendsLeaves, GrowsTo, HasLeaf, HasLeaves, IsWholeList, KeepsSizes, Refuses, pair_count};
+ghost use Rattle.merkle_log.specs.Append.{AppendsLeaves, GrowsTo, HasLeaf, HasLeaves, IsWholeList, KeepsSizes, RefusesLeaves, RefusesRow, pair_count};
 ghost use Rattle.merkle_log.specs.Binding.{is_accepted, HighestIn, LeafHighestIn, leaf_verdict_in, verdict_in};
 ghost use Rattle.merkle_log.specs.declared.bind.LogBinding.TheVariants.{Rejected, Stands, Collides};
 ghost use Rattle.merkle_log.specs.Edge.{all_of, beside_pairs, root_pairs};
@@ -73,7 +73,7 @@ fn append_each<D: DigestItem, T: TreeHasher<D, D>>(
     ensures extends { GrowsTo stored.old stored.new }
     ensures refused { IfErr result (λ error. (error ≡ OutOfMemory)
         ⊎ (all_hashes (T.hashes hasher.now).leaf leaves.now ≡ Err error)
-        ⊎ Refuses (T.hashes hasher.now).pair.upper error) }
+        ⊎ RefusesLeaves (T.hashes hasher.now) (row_at stored.old 0) leaves.now error) }
     ensures counts { IfOk result
         (λ count. pair_count stored.old.size + count ≡ pair_count stored.new.size) }
     ensures fits { stored.new.size < 2 ^ 64 }
@@ -113,14 +113,16 @@ impl<D: DigestItem, T: TreeHasher<D, D>> Log<D, T> {
         self.stored.size()
     }
 
-    /// Appends a leaf. Errors, which leave the log unchanged: that of the leaf's hash; that of a pair; `OutOfMemory`.
+    /// Appends a leaf. Errors, which leave the log unchanged: that of the leaf's hash; that of the pair that it completes and
+    /// the hash refuses; `OutOfMemory`.
     pub fn append(&mut self, alloc: Global, leaf: &T::Leaf) -> Result<(), Error>
         ensures appended { OnOk result (HasLeaf (T.hashes self.old.hasher) self.old leaf.now
             self.new) }
         ensures kept { OnErr result (self.new ≡ self.old) }
         ensures refused { IfErr result (λ error. (error ≡ OutOfMemory)
             ⊎ ((T.hashes self.old.hasher).leaf leaf.now ≡ Err error)
-            ⊎ Refuses (T.hashes self.old.hasher).pair.upper error) }
+            ⊎ RefusesLeaves (T.hashes self.old.hasher) self.old.digests (leaf.now ∷ [])
+            error) }
 
         // Roots and proofs of the sizes that the log had stay.
         ensures stays { OnOk result (KeepsSizes ((T.hashes self.old.hasher).pair.upper) self.old
@@ -130,12 +132,14 @@ impl<D: DigestItem, T: TreeHasher<D, D>> Log<D, T> {
         self.append_digest(alloc, digest)
     }
 
-    /// Appends a leaf's digest. Errors, which leave the log unchanged: that of a pair; `OutOfMemory`.
+    /// Appends a leaf's digest. Errors, which leave the log unchanged: that of the pair that it completes and the hash
+    /// refuses; `OutOfMemory`.
     pub fn append_digest(&mut self, alloc: Global, digest: D) -> Result<(), Error>
         ensures appended { OnOk result (self.new ≡ with_more self.old (D.numbers digest ∷ [])) }
         ensures kept { OnErr result (self.new ≡ self.old) }
         ensures refused { IfErr result (λ error. (error ≡ OutOfMemory)
-            ⊎ Refuses (T.hashes self.old.hasher).pair.upper error) }
+            ⊎ RefusesRow (T.hashes self.old.hasher).pair.upper
+            (self.old.digests ++ (D.numbers digest ∷ [])) error) }
 
         // Roots and proofs of the sizes that the log had stay.
         ensures stays { OnOk result (KeepsSizes ((T.hashes self.old.hasher).pair.upper) self.old
@@ -152,7 +156,8 @@ impl<D: DigestItem, T: TreeHasher<D, D>> Log<D, T> {
         ensures appended { OnOk result (self.new ≡ with_more self.old (D.numbers digest ∷ [])) }
         ensures kept { OnErr result (self.new ≡ self.old) }
         ensures refused { IfErr result (λ error. (error ≡ OutOfMemory)
-            ⊎ Refuses (T.hashes self.old.hasher).pair.upper error) }
+            ⊎ RefusesRow (T.hashes self.old.hasher).pair.upper
+            (self.old.digests ++ (D.numbers digest ∷ [])) error) }
         ensures count { IfOk result
             (λ count. pair_count (length self.old.digests) + count ≡ pair_count
             (length self.new.digests)) }
@@ -164,15 +169,16 @@ impl<D: DigestItem, T: TreeHasher<D, D>> Log<D, T> {
 
     /// Appends leaves: as `append` of each in turn, whole or not at all. It allocates once, and a bounded run at a time.
     ///
-    /// Errors, which leave the log unchanged: the first of the leaves' hash; one of the pairs' hash; `OutOfMemory`. Leaves are
-    /// hashed ahead of the pairs that they complete, so a leaf's error may come in place of that of a pair on its left.
+    /// Errors, which leave the log unchanged: the first of the leaves' hash; that of the first pair that the hash refuses, on
+    /// the lowest level with one, a bounded run of leaves at a time; `OutOfMemory`. Leaves are hashed ahead of the pairs that
+    /// they complete, so a leaf's error may come in place of that of a pair on its left.
     pub fn append_many(&mut self, alloc: Global, leaves: &[T::Leaf]) -> Result<(), Error>
         ensures appended { OnOk result (HasLeaves (T.hashes self.old.hasher) self.old leaves.now
             self.new) }
         ensures kept { OnErr result (self.new ≡ self.old) }
         ensures refused { IfErr result (λ error. (error ≡ OutOfMemory)
             ⊎ (all_hashes (T.hashes self.old.hasher).leaf leaves.now ≡ Err error)
-            ⊎ Refuses (T.hashes self.old.hasher).pair.upper error) }
+            ⊎ RefusesLeaves (T.hashes self.old.hasher) self.old.digests leaves.now error) }
 
         // Roots and proofs of the sizes that the log had stay.
         ensures stays { OnOk result (KeepsSizes ((T.hashes self.old.hasher).pair.upper) self.old
@@ -194,7 +200,7 @@ impl<D: DigestItem, T: TreeHasher<D, D>> Log<D, T> {
         ensures kept { OnErr result (self.new ≡ self.old) }
         ensures refused { IfErr result (λ error. (error ≡ OutOfMemory)
             ⊎ (all_hashes (T.hashes self.old.hasher).leaf leaves.now ≡ Err error)
-            ⊎ Refuses (T.hashes self.old.hasher).pair.upper error) }
+            ⊎ RefusesLeaves (T.hashes self.old.hasher) self.old.digests leaves.now error) }
         ensures count { IfOk result
             (λ count. pair_count (length self.old.digests) + count ≡ pair_count
             (length self.new.digests)) }

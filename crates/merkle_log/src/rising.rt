@@ -1,11 +1,11 @@
 //! The rows that more leaves put behind those of a log, hashed level by level, so that the hash can make many pairs together.
 
-ghost use Rattle.std.specs.Prelude.{◌≡◌, ◌⊎◌, ◌<◌, ◌+◌, ◌*◌, ◌/◌, ◌++◌, length, map, drop, IfOk, IfErr, Ok};
+ghost use Rattle.std.specs.Prelude.{◌≡◌, ◌⊎◌, ◌<◌, ◌+◌, ◌*◌, ◌/◌, ◌++◌, length, map, drop, IfOk, IfErr, Ok, Err};
 ghost use Rattle.ark_base.specs.declared.error.Error.TheVariants.{OutOfMemory};
 ghost use Rattle.ark_base.specs.Outcome.{AnswersBy};
 ghost use Rattle.ark_crh.specs.Ahead.{lent_couples};
 ghost use Rattle.ark_paths.specs.Rows.{couples, digests_of};
-ghost use Rattle.merkle_log.specs.Append.{Refuses};
+ghost use Rattle.merkle_log.specs.Append.{RefusesRow};
 ghost use Rattle.merkle_log.specs.Rising.{left_of, with_rows};
 ghost use Rattle.merkle_log.specs.Stored.{row_at, row_pairs, IsStored};
 
@@ -42,7 +42,8 @@ fn lend_completed<'a, D: DigestItem>(
     Ok(run)
 }
 
-// Returns the digests that others behind a row put behind the row above. Errors: that of a pair; `OutOfMemory`.
+// Returns the digests that others behind a row put behind the row above. Errors: that of the first pair that the hash refuses;
+// `OutOfMemory`.
 fn row_over<D: DigestItem, T: TreeHasher<D, D>>(
     alloc: Global,
     hasher: &T,
@@ -58,14 +59,15 @@ fn row_over<D: DigestItem, T: TreeHasher<D, D>>(
         (row_at stored.now level ++ map D.numbers row.now) ≡ Ok (row_at stored.now (level + 1) ++
         digests_of D.numbers above)) }
     ensures refused { IfErr result (λ error. (error ≡ OutOfMemory)
-        ⊎ Refuses (T.hashes hasher.now).pair.upper error) }
+        ⊎ (row_pairs (T.hashes hasher.now).pair.upper
+        (row_at stored.now level ++ map D.numbers row.now) ≡ Err error)) }
 {
     let run = lend_completed(alloc, stored, level, count, row)?;
     upper_digests(alloc, hasher, &run)
 }
 
-/// Returns the digests of leaves and those that they complete behind a log's rows, the lowest row first. Errors: that of a
-/// pair; `OutOfMemory`.
+/// Returns the digests of leaves and those that they complete behind a log's rows, the lowest row first. Errors: that of the
+/// first pair, of the lowest row with one, that the hash refuses; `OutOfMemory`.
 pub fn rows_over<D: DigestItem, T: TreeHasher<D, D>>(
     alloc: Global,
     hasher: &T,
@@ -78,7 +80,8 @@ pub fn rows_over<D: DigestItem, T: TreeHasher<D, D>>(
     ensures hashed { IfOk result (λ rows. IsStored (T.hashes hasher.now).pair.upper
         (with_rows (row_at stored.now) (left_of D.numbers rows.items))) }
     ensures refused { IfErr result (λ error. (error ≡ OutOfMemory)
-        ⊎ Refuses (T.hashes hasher.now).pair.upper error) }
+        ⊎ RefusesRow (T.hashes hasher.now).pair.upper
+        (row_at stored.now 0 ++ digests_of D.numbers leaves) error) }
 {
     let mut rows = Vec::new(alloc);
     let mut count = stored.size();

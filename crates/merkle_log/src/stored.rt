@@ -4,7 +4,8 @@ ghost use Rattle.std.specs.Prelude.{◌≡◌, ◌⊎◌, ◌<◌, ◌≤◌, �
 ghost use Rattle.ark_base.specs.declared.error.Error.TheVariants.{OutOfMemory};
 ghost use Rattle.ark_paths.specs.Pair.{Digest};
 ghost use Rattle.ark_paths.specs.Rows.{digests_of};
-ghost use Rattle.merkle_log.specs.Append.{Appends, Completes, GrowsTo, IsWholeList, Refuses, counted_after, pair_count};
+ghost use Rattle.merkle_log.specs.Append.{Appends, Completes, GrowsTo, IsWholeList, RefusesCarry, counted_after, pair_count};
+ghost use Rattle.merkle_log.specs.Kept.{front};
 ghost use Rattle.merkle_log.specs.Rising.{left_of, with_rows, AreOfSize};
 ghost use Rattle.merkle_log.specs.Stored.{position, stored_count, StoredValue, row_at};
 
@@ -50,7 +51,8 @@ fn complete<D: DigestItem, W: PairHasher<D, D>>(
         (digests_of D.numbers digests.old) (D.numbers digest) (digests_of D.numbers digests.new)) }
     ensures front { take (length digests.old.items) digests.new.items ≡ digests.old.items }
     ensures refused { IfErr result (λ error. (error ≡ OutOfMemory)
-        ⊎ Refuses (W.pair hasher.old).upper error) }
+        ⊎ RefusesCarry (W.pair hasher.old).upper
+        (row_at (front size (digests_of D.numbers digests.old))) (D.numbers digest) error) }
     ensures same { W.pair hasher.new ≡ W.pair hasher.old }
     ensures counts { OnOk result (W.counted hasher.new ≡ counted_after (W.counted hasher.old)
         (pair_count (size + 1) - pair_count size)) }
@@ -98,7 +100,8 @@ impl<D: DigestItem> Stored<D> {
             (D.numbers digest) self.new) }
         ensures kept { OnErr result (self.new ≡ self.old) }
         ensures refused { IfErr result (λ error. (error ≡ OutOfMemory)
-            ⊎ Refuses (W.pair hasher.old).upper error) }
+            ⊎ RefusesCarry (W.pair hasher.old).upper (row_at self.old) (D.numbers digest)
+            error) }
         ensures same { W.pair hasher.new ≡ W.pair hasher.old }
         ensures counts { OnOk result (W.counted hasher.new ≡ counted_after (W.counted hasher.old)
             (pair_count self.new.size - pair_count self.old.size)) }

@@ -279,7 +279,8 @@ impl<'a> Verifier<'a> {
 
     /// Writes the text of the key, `NAME+HASH+KEY`. Errors: `Name`, `Memory`.
     pub fn write(&self, alloc: Global) -> Result<Vec<u8>, Fault>
-        ensures { NoteGivesBy vec_items (write_key [] as_it_stands (verifier_parts self.now)) result }
+        ensures { NoteGivesBy vec_items (write_key [] as_it_stands (verifier_parts self.now))
+            result }
     {
         if !is_name(self.name) {
             return Err(Fault::Name);
@@ -341,7 +342,8 @@ impl<'a> Cosigner<'a> {
 
     /// Writes the text of the key, `PRIVATE+KEY+NAME+HASH+SEED`. Errors: `Name`, `Memory`.
     pub fn write(&self, alloc: Global) -> Result<Vec<u8>, Fault>
-        ensures { NoteGivesBy vec_items (write_key private key_of (cosigner_parts self.now)) result }
+        ensures { NoteGivesBy vec_items (write_key private key_of (cosigner_parts self.now))
+            result }
     {
         write_private(alloc, self.name, 4, &self.seed)
     }

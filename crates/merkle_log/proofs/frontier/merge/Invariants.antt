@@ -4,7 +4,7 @@ use Rattle.merkle_log.specs.Frontier.{frontier, IsFrontier}
 use Rattle.merkle_log.specs.Walk.{joined}
 use Rattle.ark_paths.specs.Pair.{Digest}
 use Rattle.merkle_log.proofs.Lasts.{node_rows}
-use Rattle.merkle_log.proofs.Merging.{Merging}
+use Rattle.merkle_log.proofs.Merging.{MadeOf, Merging}
 use Rattle.merkle_log.proofs.frontier.merge.Given as goal
 
 abbrev pub invariant-odd : goal.invariant-odd
@@ -15,6 +15,7 @@ invariant-odd g l =
     record {
       left : l.left ≡ count_ones l.count;
       within : l.left ≤ length l.peaks;
+      made : MadeOf hash l.fn.size peaks (numbers l.fn.digest) l.count l.left (numbers l.last);
       same : count_ones (l.count + 1) ≡ count_ones (l.fn.size + 1);
       at : (empty : Digest) (digests : List Digest) → IsFrontier hash digests l.fn.size peaks → Merging hash empty peaks
           l.count l.left (numbers l.last)

@@ -3,10 +3,10 @@ use Rattle.std.proofs.lemmas.List.{length-drop, length-take-le}
 use Rattle.std.proofs.lemmas.Result.{err_from_is_err_and}
 use Rattle.ark_paths.specs.Root.{all_hashes}
 use Rattle.ark_paths.specs.Rows.{digests_of}
-use Rattle.ark_paths.proofs.Ahead.{so_far-run, so_far-run_refused}
+use Rattle.ark_paths.proofs.Ahead.{so_far-run_refused}
 use Rattle.ark_paths.proofs.ListOutcomes.{length-each}
 use Rattle.merkle_log.specs.Rising.{left_of}
-use Rattle.merkle_log.proofs.Growing.{AppendsAll, appends-none, appends-run, appends-all, laid-all}
+use Rattle.merkle_log.proofs.Growing.{AppendsAll, appends-none, appends-run, appends-refused, appends-all, laid-all}
 use Rattle.merkle_log.proofs.RisenRows.{sizes-of}
 use Rattle.merkle_log.proofs.log.append_each.Goals as goal
 
@@ -28,8 +28,7 @@ runs-preserved g c =
     c.in_ok-calls.ensures.whole c.in_ok-calls.ensures.extends in
     record {
       at = appends-run c.min-count.result c.runs.invariant.at digests
-          (λ done so. so_far-run hash c.args.leaves.now c.runs.first _ done so _
-          (ap (all_hashes hash) (sym c.part_of.ensures) ∙ c.in_ok-made.ensures)) appended;
+          (ap (all_hashes hash) (sym c.part_of.ensures) ∙ c.in_ok-made.ensures) appended;
       counted = omega (arith, c.in_ok-calls.ensures.count, c.runs.invariant.counted);
       fits = c.in_ok-calls.ensures.fits;
     }
@@ -55,6 +54,17 @@ returns-in_err-made-clause-refused g c =
       | inl memory ↦ inl memory
       | inr refused ↦ inr (inl (so_far-run_refused hash c.args.leaves.now c.runs.first _ _ c.runs.invariant.at.hashed _
           (ap (all_hashes hash) (sym c.part_of.ensures) ∙ refused)))
+    ])
+
+pub returns-in_err-rows-clause-refused : goal.returns-in_err-rows-clause-refused
+returns-in_err-rows-clause-refused g c =
+    let hash = (g.T.TreeHasher.hashes c.args.hasher.now).leaf in
+    let result = err_from_is_err_and c.from_residual-in_err-rows.result c.from_residual-in_err-rows.ensures.1 in
+    rw (result.1, result.2) (elim c.in_err-rows.ensures.refused [
+      | inl memory ↦ inl memory
+      | inr refused ↦ inr (inr (appends-refused c.min-count.result c.runs.invariant.at
+          (digests_of g.D.Numbered.numbers c.in_ok-made.made)
+          (ap (all_hashes hash) (sym c.part_of.ensures) ∙ c.in_ok-made.ensures) _ refused))
     ])
 
 pub returns-clause-appended : goal.returns-clause-appended

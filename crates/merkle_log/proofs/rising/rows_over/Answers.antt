@@ -1,9 +1,10 @@
-use Rattle.std.proofs.Common.{◌≡◌, ◌/◌, length, map, refl, ap, sym, ◌∙◌, arith}
+use Rattle.std.proofs.Common.{◌≡◌, ◌/◌, length, map, refl, ap, sym, ◌∙◌, inl, inr, arith}
 use Rattle.std.proofs.lemmas.List.{length-append, length-map, map_push}
+use Rattle.std.proofs.lemmas.Result.{err_from_is_err_and}
 use Rattle.std.specs.Vec.Iter.{into_iter_items}
 use Rattle.merkle_log.proofs.KeptRows.{length-up}
 use Rattle.merkle_log.proofs.Positions.{length-row_of}
-use Rattle.merkle_log.proofs.RisenRows.{over-fewer, rising-first, rising-next, risen-stored}
+use Rattle.merkle_log.proofs.RisenRows.{over-fewer, rising-first, rising-next, rising-refused, risen-stored}
 use Rattle.merkle_log.proofs.rising.rows_over.Goals as goal
 
 pub levels-init : goal.levels-init
@@ -37,6 +38,16 @@ levels-preserved g c =
       count = rw (length-append) (ap (λ n. n / 2) c.levels.invariant.count
           ∙ sym (length-up c.args.stored.now (length c.levels.rows.items)));
     })
+
+pub returns-in_err-above-clause-refused : goal.returns-in_err-above-clause-refused
+returns-in_err-above-clause-refused g c =
+    let level : c.len-in-levels.result ≡ length (map into_iter_items c.levels.rows.items) =
+    omega (arith, c.len-in-levels.ensures, c.levels.rows.ok.0, length-map c.levels.rows.items into_iter_items) in
+    let result = err_from_is_err_and c.from_residual.result c.from_residual.ensures.1 in
+    rw (result.1, result.2) (elim (rw (level, c.deref.ensures.value) at c.in_err-above.ensures.refused) [
+      | inl memory ↦ inl memory
+      | inr refused ↦ inr (rising-refused c.levels.invariant.at _ refused)
+    ])
 
 pub returns-clause-hashed : goal.returns-clause-hashed
 returns-clause-hashed g c =

@@ -1,6 +1,6 @@
 use Rattle.std.proofs.Common.{◌≡◌, ◌-◌, length, map, get_or, refl, ap, ◌∙◌, inl, inr, arith, take, []}
 use Rattle.std.proofs.lemmas.Result.{err_from_is_err_and}
-use Rattle.merkle_log.proofs.Completing.{completing-first, completing-long, completing-front, completing-place, completing-inside, completing-next, completing-end, completing-pairs, digest-read}
+use Rattle.merkle_log.proofs.Completing.{completing-first, completing-long, completing-front, completing-place, completing-inside, completing-next, completing-refused, completing-end, completing-pairs, digest-read}
 use Rattle.merkle_log.specs.Append.{counted_after}
 use Rattle.merkle_log.proofs.Counted.{counted-same, counted-next}
 use Rattle.merkle_log.proofs.stored.complete.Goals as goal
@@ -42,16 +42,18 @@ returns-in_err-up-clause-front g c = completing-front c.odd.invariant.at
 
 pub returns-in_err-up-clause-refused : goal.returns-in_err-up-clause-refused
 returns-in_err-up-clause-refused g c =
-    let hash = (g.W.PairHasher.pair c.args.hasher.now).upper in
     let result = err_from_is_err_and c.from_residual-in_err-up.result c.from_residual-in_err-up.ensures.1 in
+    let numbers = g.D.Numbered.numbers in
+    let last : c.len-last.result - 1 ≡ length c.odd.digests.items - 1 =
+    omega (arith, c.len-last.ensures, c.odd.digests.ok.0) in
+    let left : numbers c.digest_at.result.now ≡ get_or (map numbers c.odd.digests.items) _ [] =
+    rw (c.deref.ensures.value) at c.digest_at.ensures in
+    let right = digest-read numbers c.odd.digests.items (c.len-last.result - 1) c.index.result.now
+    (omega (arith, last, completing-long c.odd.invariant.at)) c.index.ensures in
     rw (result.1, result.2) (elim (rw (c.odd.invariant.same) at c.in_err-up.ensures.answer) [
       | inl memory ↦ inl memory
-      | inr refused ↦ inr (record {
-        left = g.D.Numbered.numbers c.digest_at.result.now;
-        right = g.D.Numbered.numbers
-            c.index.result.now;
-        is = refused;
-      })
+      | inr refused ↦ inr (completing-refused c.odd.invariant.at c.ranges.size.fits c.odd-test.true c.requires.whole
+          (c.len-last.result - 1) last _ (rw (← left, ← right) refused))
     ])
 
 pub returns-in_err-up-clause-same : goal.returns-in_err-up-clause-same

@@ -1,5 +1,8 @@
 use Rattle.std.proofs.Common.{◌≡◌, ◌-◌, length, ap, sym, ◌∙◌}
+use Rattle.std.proofs.Math.Logic.{⊎_map}
+use Rattle.std.proofs.lemmas.Result.{err_from_is_err_and}
 use Rattle.merkle_log.specs.Append.{counted_after, pair_count}
+use Rattle.merkle_log.proofs.Carried.{carried-refused}
 use Rattle.merkle_log.proofs.Counted.{counted-growth}
 use Rattle.merkle_log.proofs.Growing.{IsKept, appends-kept}
 use Rattle.merkle_log.proofs.Positions.{length-row_of}
@@ -13,6 +16,13 @@ invariant_of-self-2 g c =
     let new = appends-kept hash old c.append.new.self (g.D.Numbered.numbers c.args.digest) c.append.result kept
     (rw (c.new-hasher.ensures.hasher) at c.append.ensures.appended) c.append.ensures.kept in
     record { whole = new.whole; stored = new.stored_is }
+
+pub returns-in_err-append-clause-refused : goal.returns-in_err-append-clause-refused
+returns-in_err-append-clause-refused g c =
+    let result = err_from_is_err_and c.from_residual.result c.from_residual.ensures.1 in
+    rw (result.1, result.2, ← c.self.view_is) (⊎_map (λ memory. memory)
+    (λ carry. carried-refused _ _ _ _ c.self.invariant.stored carry)
+    (rw (c.new-hasher.ensures.hasher) at c.in_err-append.ensures.refused))
 
 pub returns-clause-count : goal.returns-clause-count
 returns-clause-count g c =
