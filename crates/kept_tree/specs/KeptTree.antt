@@ -1,5 +1,5 @@
 -- Trees that are kept in memory: digests in level order, the root first, the leaf digests last.
-use Rattle.std.specs.Prelude.{◌≡◌, ◌⊎◌, ℕ, zero, suc, ◌+◌, ◌-◌, ◌*◌, ◌/◌, ◌<◌, ◌≤◌, ◌^◌, List, [], ◌∷◌, length, map, drop, get_or, nat_lt, Bool, ◌&&◌, Ok}
+use Rattle.std.specs.Prelude.{◌≡◌, ◌≢◌, ◌⊎◌, ℕ, zero, suc, ◌+◌, ◌-◌, ◌*◌, ◌/◌, ◌<◌, ◌≤◌, ◌^◌, List, [], ◌∷◌, length, map, drop, get_or, nat_lt, Bool, ◌&&◌, Ok}
 use Rattle.std.specs.List.{zip}
 use Rattle.ark_paths.specs.Index.{IsTreeSize, is_tree_size, log2, neighbour}
 use Rattle.ark_paths.specs.MultiPath.{MultiWay}
@@ -78,6 +78,21 @@ pub record LevelHashed (node : PlainNode) (old new : List Digest) (level : ℕ) 
   pub others : (i : ℕ)
       → ((j : ℕ) → j < length indexes → i ≡ place_above (length old) level (get_or indexes j 0) → ⊥)
       → get_or new i [] ≡ get_or old i []
+
+-- Some places have two places below them in memory of so many digests.
+abbrev pub AreInside : ℕ → List ℕ → Type 0
+AreInside count places = (i : ℕ) → i < length places → 2 * get_or places i 0 + 2 < count
+
+-- None of the places stands below another.
+abbrev pub AreApart : List ℕ → Type 0
+AreApart places = (i j : ℕ) → i < length places → j < length places
+    → (get_or places i 0 ≢ 2 * get_or places j 0 + 1) × (get_or places i 0 ≢ 2 * get_or places j 0 + 2)
+
+-- The digests at some places are hashed from those below them, which are as before, as are all others.
+pub record PlacesHashed (node : PlainNode) (old new : List Digest) (places : List ℕ) : Type 0 where
+  pub long : length new ≡ length old
+  pub hashed : (j : ℕ) → j < length places → IsHashed node new (get_or places j 0)
+  pub others : (i : ℕ) → ((j : ℕ) → j < length places → i ≡ get_or places j 0 → ⊥) → get_or new i [] ≡ get_or old i []
 
 -- The digests above the leaves of some indexes are hashed from the ones below them; all others are as before.
 pub record RehashesAbove (node : PlainNode) (old new : List Digest) (indexes : List ℕ) : Type 0 where

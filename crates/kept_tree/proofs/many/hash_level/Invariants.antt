@@ -1,5 +1,6 @@
-use Rattle.kept_tree.proofs.LevelByLevel.{LevelUpTo}
+use Rattle.kept_tree.proofs.LevelByLevel.{LevelWaits}
 use Rattle.kept_tree.proofs.many.hash_level.Given as goal
 
 abbrev pub invariant-indexes : goal.invariant-indexes
-invariant-indexes g l = LevelUpTo g.H.ArrayHash.node_hash l.fn.memory l.memory l.level l.indexes l.index-index l.last
+invariant-indexes g l =
+    LevelWaits g.H.ArrayHash.node_hash l.fn.memory l.memory l.level l.indexes l.index-index l.run l.count
