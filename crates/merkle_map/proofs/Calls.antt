@@ -10,7 +10,7 @@ use Rattle.merkle_map.specs.Tree.{Shape, Empty, One, Fork, Hidden, shape_digest,
 use Rattle.merkle_map.specs.Changes.{with_value, losing, known_at, tree_without, losing_known, hides, outcome_with, has_entry, is_there, Becomes}
 use Rattle.merkle_map.specs.Rests.{rest_of, is_hidden_rest}
 use Rattle.merkle_map.specs.Parts.{found_seen, value_seen}
-use Rattle.merkle_map.specs.Shown.{BindsTree, Follows, Has, has_digest}
+use Rattle.merkle_map.specs.Shown.{BindsTree, Follows, FollowsBy, Has, has_digest}
 use Rattle.merkle_map.proofs.Entries.{absent-without}
 use Rattle.merkle_map.proofs.Known.{known-shown}
 use Rattle.merkle_map.proofs.Rest.{IsSeen, seen-losing, losing-hides}
@@ -49,11 +49,11 @@ known_rest (Ok s) e new is = ap Ok is
 known_rest (Err error) e new is = absurd cc
 
 -- an entry that is there is lost
-pub there-losing : (key : Key) (old : Shape) → has_entry key old ≡ Ok true → tree_without key old ≡ losing 0 key old
-there-losing key old e = by_known (known_at 0 key old) e
+pub there-losing : (nothing : Digest) (key : Key) (old : Shape) → has_entry key old ≡ Ok true → tree_without nothing key old ≡ losing nothing 0 key old
+there-losing nothing key old e = by_known (known_at 0 key old) e
   where
     by_known : (o : Outcome (Option Digest)) → (o >>= λ value. Ok (is_there value)) ≡ Ok true
-        → (o >>= losing_known key old) ≡ losing 0 key old
+        → (o >>= losing_known nothing key old) ≡ losing nothing 0 key old
     by_known (Ok None) e = let no = done_injective {E = Error} false true e in absurd cc
     by_known (Ok (Some value)) e = refl
     by_known (Err error) e = absurd cc
@@ -73,9 +73,9 @@ absent-followed key old e = λ h entries map shown.
     subst (λ es. Shows h 0 old es) (sym (absent-without key entries none)) shown
 
 -- what is hidden decides: the error is that
-pub unknown_losing : (key : Key) (old : Shape) → is_hidden_rest (rest_of (losing 0 key old)) ≡ true
-    → losing 0 key old ≡ Err hides
-unknown_losing key old e = by_outcome (losing 0 key old) (seen-losing 0 key old) (losing-hides 0 key old) e
+pub unknown_losing : (nothing : Digest) (key : Key) (old : Shape) → is_hidden_rest (rest_of (losing nothing 0 key old)) ≡ true
+    → losing nothing 0 key old ≡ Err hides
+unknown_losing nothing key old e = by_outcome (losing nothing 0 key old) (seen-losing nothing 0 key old) (losing-hides nothing 0 key old) e
   where
     by_outcome : (o : Outcome Shape) → IsSeen o → ((error : Error) → o ≡ Err error → error ≡ hides)
         → is_hidden_rest (rest_of o) ≡ true → o ≡ Err hides
@@ -85,32 +85,35 @@ unknown_losing key old e = by_outcome (losing 0 key old) (seen-losing 0 key old)
     by_outcome (Ok (Hidden digest)) seen why e = absurd seen
     by_outcome (Err error) seen why e = ap (λ (x : Error). Err x) (why error refl)
 
-pub losing-followed : (key : Key) (old new : Shape) → losing 0 key old ≡ Ok new → Follows (without key) old new
-losing-followed key old new is = λ h entries map shown. losing-shows h 0 key old new entries is shown
+-- a call that returned
+abbrev pub returned : Outcome (Unit {0})
+returned = Ok (tt {0})
 
 -- a tree without a key shows the maps without it, and stands where it stood
-module _ (key : Key) (old new : Shape) where
-  pub without-follows : {A : Type 0} (result : Outcome A) → tree_without key old ≡ outcome_with new result
-      → OnOk result (Follows (without key) old new)
+module _ (h : MapHashes) (key : Key) (old new : Shape) where
+  pub without-follows : {A : Type 0} (result : Outcome A)
+      → AnswersBy (λ _. new) (tree_without h.nothing key old) result
+      → OnOk result (FollowsBy h (without key) old new)
   without-follows (Err error) e = tt
   without-follows (Ok x) e = by_known (known_at 0 key old) refl e
     where
-      by_known : (o : Outcome (Option Digest)) → known_at 0 key old ≡ o → (o >>= losing_known key old) ≡ Ok new
-          → Follows (without key) old new
+      by_known : (o : Outcome (Option Digest)) → known_at 0 key old ≡ o
+          → (o >>= losing_known h.nothing key old) ≡ Ok new → FollowsBy h (without key) old new
       by_known (Ok None) is e =
-          subst (Follows (without key) old) (done_injective {E = Error} old new e)
-          (absent-followed key old (ap (λ o. o >>= λ value. Ok (is_there value)) is))
-      by_known (Ok (Some value)) is e = losing-followed key old new e
+          subst (FollowsBy h (without key) old) (done_injective {E = Error} old new e)
+          (absent-followed key old (ap (λ o. o >>= λ value. Ok (is_there value)) is) h)
+      by_known (Ok (Some value)) is e = λ entries map shown. losing-shows h 0 key old new entries e shown
       by_known (Err error) is e = absurd cc
 
-  pub without-stands : {A : Type 0} (result : Outcome A) → tree_without key old ≡ outcome_with new result
+module _ (nothing : Digest) (key : Key) (old new : Shape) where
+  pub without-stands : {A : Type 0} (result : Outcome A) → AnswersBy (λ _. new) (tree_without nothing key old) result
       → OnErr result (new ≡ old) → StandsAt [] old → StandsAt [] new
   without-stands (Err error) e same stands = subst (StandsAt []) (sym same) stands
   without-stands (Ok x) e same stands = by_known (known_at 0 key old) e
     where
-      by_known : (o : Outcome (Option Digest)) → (o >>= losing_known key old) ≡ Ok new → StandsAt [] new
+      by_known : (o : Outcome (Option Digest)) → (o >>= losing_known nothing key old) ≡ Ok new → StandsAt [] new
       by_known (Ok None) e = subst (StandsAt []) (done_injective {E = Error} old new e) stands
-      by_known (Ok (Some value)) e = losing-stands [] 0 key old new stands e
+      by_known (Ok (Some value)) e = losing-stands nothing [] 0 key old new stands e
       by_known (Err error) e = absurd cc
 
 -- ---- roots

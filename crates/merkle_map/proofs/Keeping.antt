@@ -3,16 +3,16 @@ use Rattle.std.proofs.Common.{◌≡◌, refl, ap, sym, ◌∙◌, subst, Ok, Er
 use Rattle.ark_base.specs.Outcome.{Outcome, AnswersBy}
 use Rattle.ark_base.specs.declared.error.Error.{Error}
 use Rattle.ark_base.specs.Laws.Steps.{done_injective}
-use Rattle.merkle_map.specs.Changes.{known_at, outcome_with, tree_without, with_value}
+use Rattle.merkle_map.specs.Changes.{known_at, tree_without, with_value, Becomes}
 use Rattle.merkle_map.specs.Kept.{IsKept}
 use Rattle.merkle_map.specs.Map.{Digest, Entry, HaveSame, Key, MapHashes, value_at, without}
-use Rattle.merkle_map.specs.Shown.{Follows}
 use Rattle.merkle_map.specs.Tree.{IsWhole, Shape, StandsAt}
 use Rattle.merkle_map.specs.Whole.{IsStoreOf, entries_of}
 use Rattle.merkle_map.specs.declared.part.Part.{Part}
+use Rattle.merkle_map.proofs.Calls.{returned, without-follows}
 use Rattle.merkle_map.proofs.Known.{known-shown}
 use Rattle.merkle_map.proofs.Pruning.{whole-known}
-use Rattle.merkle_map.proofs.Wholes.{exact, put-can, remove-can, stores, whole-shows}
+use Rattle.merkle_map.proofs.Wholes.{plain, put-can, remove-can, stores, whole-shows}
 
 -- A tree over two that keep right digests keeps right ones.
 pub kept-above : {D : Type 0} (numbers : D → Digest) (result : Outcome (Part D)) (left right : Part D)
@@ -38,20 +38,25 @@ module _ (old new : Shape) (whole : IsWhole old) where
       subst IsWhole (done_injective {E = Error} n.0 new (sym n.1 ∙ is)) n.2
   put-whole own (Err error) is kept = subst IsWhole (sym kept) whole
 
-  pub without-whole : (key : Key) (result : Outcome (Unit {0})) → tree_without key old ≡ outcome_with new result
-      → IsWhole new
-  without-whole key (Ok x) is =
-      let n = remove-can key old whole in
-      subst IsWhole (done_injective {E = Error} n.0 new (sym n.1 ∙ is)) n.2
-  without-whole key (Err error) is = let n = remove-can key old whole in absurd cc
+  pub without-whole : (key : Key) → ((nothing : Digest) → Becomes (tree_without nothing key old) new)
+      → tree_without [] key old ≡ Ok new
+  without-whole key is = let n = remove-can [] key old whole in
+      n.1 ∙ ap Ok (let same = is [] in by_outcome (tree_without [] key old) n.0 n.1 same)
+    where
+      by_outcome : (o : Outcome Shape) (n : Shape) → o ≡ Ok n → Becomes o new → n ≡ new
+      by_outcome (Ok s) n e same = sym (done_injective {E = Error} s n e) ∙ same
+      by_outcome (Err error) n e same = absurd cc
 
-  pub without-same : (key : Key) (result : Outcome (Unit {0})) → StandsAt [] old → StandsAt [] new
-      → tree_without key old ≡ outcome_with new result → OnOk result (Follows (without key) old new)
+  pub now-whole : (key : Key) → tree_without [] key old ≡ Ok new → IsWhole new
+  now-whole key is =
+      let n = remove-can [] key old whole in
+      subst IsWhole (done_injective {E = Error} n.0 new (sym n.1 ∙ is)) n.2
+
+  pub without-same : (key : Key) → StandsAt [] old → StandsAt [] new → tree_without [] key old ≡ Ok new
       → HaveSame (entries_of new) (without key (entries_of old))
-  without-same key (Ok x) stands after is follows =
-      (stores (without key) old new stands after (tree_without key old) (Ok x) (remove-can key old)
-      (exact new (tree_without key old) (Ok x) is) follows whole).0.same
-  without-same key (Err error) stands after is follows = let n = remove-can key old whole in absurd cc
+  without-same key stands after is =
+      (stores plain (without key) old new stands after (tree_without [] key old) returned (remove-can [] key old)
+      is (without-follows plain key old new returned is) whole).0.same
 
 pub same-of : {A : Type 0} (entries : List Entry) (new : Shape) (result : Outcome A)
     → OnOk result (IsStoreOf entries new) → OnOk result (HaveSame (entries_of new) entries)

@@ -1,7 +1,7 @@
 -- Trees on the way of a key.
 use Rattle.std.proofs.Common.{suc, ◌≡◌, ℕ, ◌+◌, ◌<◌, Bool, true, false, if◌then◌else◌, Ok, arith, refl, ap, ◌∙◌, subst}
 use Rattle.ark_base.specs.Outcome.{Outcome, ◌>>=◌, AnswersBy}
-use Rattle.merkle_map.specs.Map.{Key, Entry, bit_of}
+use Rattle.merkle_map.specs.Map.{Key, Digest, Entry, bit_of}
 use Rattle.merkle_map.specs.Tree.{Shape, Fork, way, StandsAt}
 use Rattle.merkle_map.specs.Changes.{known_at, with_value, losing, rejoined}
 use Rattle.merkle_map.proofs.Answered.{answers_on}
@@ -37,12 +37,12 @@ module _ (level : ℕ) {whole left right : Shape} (fork : whole ≡ Fork left ri
       ∙ on_bit level (bit_of level key) b (λ n. known_at n key right) (λ n. known_at n key left) bit
 
   -- a key is removed from its side
-  pub losing-on : (key : Key) (b : Bool) → bit_of level key ≡ b
-      → losing level key whole ≡ (if b then (losing (level + 1) key right >>= λ r. rejoined left r)
-      else (losing (level + 1) key left >>= λ l. rejoined l right))
-  losing-on key b bit = ap (losing level key) fork
-      ∙ on_bit level (bit_of level key) b (λ n. losing n key right >>= λ r. rejoined left r)
-      (λ n. losing n key left >>= λ l. rejoined l right) bit
+  pub losing-on : (nothing : Digest) (key : Key) (b : Bool) → bit_of level key ≡ b
+      → losing nothing level key whole ≡ (if b then (losing nothing (level + 1) key right >>= λ r. rejoined nothing left r)
+      else (losing nothing (level + 1) key left >>= λ l. rejoined nothing l right))
+  losing-on nothing key b bit = ap (losing nothing level key) fork
+      ∙ on_bit level (bit_of level key) b (λ n. losing nothing n key right >>= λ r. rejoined nothing left r)
+      (λ n. losing nothing n key left >>= λ l. rejoined nothing l right) bit
 
   -- a value is put into its key's side
   with-on : (own : Entry) (b : Bool) → bit_of level own.key ≡ b

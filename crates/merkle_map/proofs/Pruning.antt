@@ -171,7 +171,7 @@ module _ (h : MapHashes) where
       (Fork l.0 r)) n l.2 in
       moved (λ s. IsSeen (Ok s)) (Fork l.0 r.0) n r.2 tt
 
-  pub joined-ok : (l r : Shape) → IsSeen (Ok l) → IsSeen (Ok r) → IsOk (rejoined l r)
+  pub joined-ok : (l r : Shape) → IsSeen (Ok l) → IsSeen (Ok r) → IsOk (rejoined h.nothing l r)
   joined-ok Empty Empty a b = refl
   joined-ok Empty (One f) a b = refl
   joined-ok Empty (Fork x y) a b = refl
@@ -186,40 +186,40 @@ module _ (h : MapHashes) where
   joined-ok (Fork v w) (Hidden d) a b = absurd b
   joined-ok (Hidden d) r a b = absurd a
 
-  ok-right : (l : Shape) (o : Outcome Shape) → IsSeen (Ok l) → IsSeen o → IsOk o → IsOk (o >>= λ r. rejoined l r)
+  ok-right : (l : Shape) (o : Outcome Shape) → IsSeen (Ok l) → IsSeen o → IsOk o → IsOk (o >>= λ r. rejoined h.nothing l r)
   ok-right l (Ok r) a b ok = joined-ok l r a b
   ok-right l (Err e) a b ok = ok
 
-  ok-left : (r : Shape) (o : Outcome Shape) → IsSeen (Ok r) → IsSeen o → IsOk o → IsOk (o >>= λ l. rejoined l r)
+  ok-left : (r : Shape) (o : Outcome Shape) → IsSeen (Ok r) → IsSeen o → IsOk o → IsOk (o >>= λ l. rejoined h.nothing l r)
   ok-left r (Ok l) a b ok = joined-ok l r b a
   ok-left r (Err e) a b ok = ok
 
   loses : (level : ℕ) (keys : List Key) (key : Key) (s n : Shape) → IsWhole s → IsAmong key keys
-      → pruned h true level keys s ≡ Ok n → IsOk (losing level key n)
+      → pruned h true level keys s ≡ Ok n → IsOk (losing h.nothing level key n)
   loses level [] key s n whole among e = absurd among
-  loses level (k ∷ keys) key Empty n whole among e = moved (λ s. IsOk (losing level key s)) Empty n e refl
-  loses level (k ∷ keys) key (One entry) n whole among e = moved (λ s. IsOk (losing level key s)) (One entry) n e refl
+  loses level (k ∷ keys) key Empty n whole among e = moved (λ s. IsOk (losing h.nothing level key s)) Empty n e refl
+  loses level (k ∷ keys) key (One entry) n whole among e = moved (λ s. IsOk (losing h.nothing level key s)) (One entry) n e refl
   loses level (k ∷ keys) key (Hidden digest) n whole among e = absurd whole
   loses level (k ∷ keys) key (Fork left right) n whole among e =
       let l = bind_ok (pruned h true (suc level) (keys_with false level (k ∷ keys)) left) _ n e in
       let r = bind_ok (pruned h true (suc level) (keys_with true level (k ∷ keys)) right) (λ r. Ok
       (Fork l.0 r)) n l.2 in
-      moved (λ s. IsOk (losing level key s)) (Fork l.0 r.0) n r.2
+      moved (λ s. IsOk (losing h.nothing level key s)) (Fork l.0 r.0) n r.2
       (by_bit l.0 r.0 (prunes-seen (suc level) (keys_with false level (k ∷ keys)) left l.0 whole.0 l.1)
       (prunes-seen (suc level) (keys_with true level (k ∷ keys)) right r.0 whole.1 r.1)
       (λ a. loses (suc level) (keys_with false level (k ∷ keys)) key left l.0 whole.0 a l.1)
       (λ a. loses (suc level) (keys_with true level (k ∷ keys)) key right r.0 whole.1 a r.1) (bit_of level key) refl)
     where
       by_bit : (m n : Shape) → IsSeen (Ok m) → IsSeen (Ok n)
-          → (IsAmong key (keys_with false level (k ∷ keys)) → IsOk (losing (suc level) key m))
-          → (IsAmong key (keys_with true level (k ∷ keys)) → IsOk (losing (suc level) key n))
-          → (b : Bool) → bit_of level key ≡ b → IsOk (if b then (losing (suc level) key n >>= λ r. rejoined m r)
-          else (losing (suc level) key m >>= λ l. rejoined l n))
+          → (IsAmong key (keys_with false level (k ∷ keys)) → IsOk (losing h.nothing (suc level) key m))
+          → (IsAmong key (keys_with true level (k ∷ keys)) → IsOk (losing h.nothing (suc level) key n))
+          → (b : Bool) → bit_of level key ≡ b → IsOk (if b then (losing h.nothing (suc level) key n >>= λ r. rejoined h.nothing m r)
+          else (losing h.nothing (suc level) key m >>= λ l. rejoined h.nothing l n))
       by_bit m n on_m on_n on_left on_right true bit =
-          ok-right m (losing (suc level) key n) on_m (seen-losing (suc level) key n)
+          ok-right m (losing h.nothing (suc level) key n) on_m (seen-losing h.nothing (suc level) key n)
           (on_right (among-filter (λ k. has_bit true level k) key (k ∷ keys) (own_bit true level key bit) among))
       by_bit m n on_m on_n on_left on_right false bit =
-          ok-left n (losing (suc level) key m) on_n (seen-losing (suc level) key m)
+          ok-left n (losing h.nothing (suc level) key m) on_n (seen-losing h.nothing (suc level) key m)
           (on_left (among-filter (λ k. has_bit false level k) key (k ∷ keys) (own_bit false level key bit) among))
 
   pub whole-known : (level : ℕ) (key : Key) (s : Shape) → IsWhole s → IsOk (known_at level key s)
@@ -234,17 +234,17 @@ module _ (h : MapHashes) where
       by_bit on_left on_right true = on_right
       by_bit on_left on_right false = on_left
 
-  pub can_lose : (keys : List Key) (s n : Shape) → pruned h true 0 keys s ≡ Ok n → IsWhole s → CanLose keys n
+  pub can_lose : (keys : List Key) (s n : Shape) → pruned h true 0 keys s ≡ Ok n → IsWhole s → CanLose h.nothing keys n
   can_lose keys s n e whole key among = by_known (known_at 0 key n)
       (subst (λ (o : Outcome (Option Digest)). IsOk o) (sym (prunes-known true 0 keys key s n among e)) (whole-known 0
       key s whole))
     where
-      by_known : (o : Outcome (Option Digest)) → IsOk o → IsOk (o >>= losing_known key n)
+      by_known : (o : Outcome (Option Digest)) → IsOk o → IsOk (o >>= losing_known h.nothing key n)
       by_known (Ok None) ok = refl
       by_known (Ok (Some value)) ok = loses 0 keys key s n whole among e
       by_known (Err error) ok = ok
 
   pub can_lose_after : (keys : List Key) (s : Shape) (result : Outcome Shape)
-      → AnswersBy (λ new. new) (pruned h true 0 keys s) result → IfOk result (λ new. IsWhole s → CanLose keys new)
+      → AnswersBy (λ new. new) (pruned h true 0 keys s) result → IfOk result (λ new. IsWhole s → CanLose h.nothing keys new)
   can_lose_after keys s (Ok new) e = can_lose keys s new e
   can_lose_after keys s (Err error) e = tt

@@ -4,10 +4,11 @@ use Rattle.std.specs.Str.{bytes_eq}
 use Rattle.ark_base.specs.declared.error.Error.{Error}
 use Rattle.ark_base.specs.Outcome.{◌>>=◌}
 use Rattle.ark_base.specs.Laws.Steps.{bind_ok, done_injective}
-use Rattle.merkle_map.specs.Map.{Key, Entry, bit_of, key_bits}
+use Rattle.merkle_map.specs.Map.{Key, Digest, Entry, bit_of, key_bits}
 use Rattle.merkle_map.specs.Tree.{Shape, Empty, One, Fork, Hidden, way, weight, IsKey, StandsAt}
 use Rattle.merkle_map.specs.Changes.{two_of, with_value, rejoined, losing}
 use Rattle.merkle_map.proofs.Keys.{length-way}
+use Rattle.merkle_map.proofs.Rest.{fork-is}
 use Rattle.merkle_map.proofs.Two.{two_holds}
 use Rattle.merkle_map.proofs.Answered.{gives}
 
@@ -166,57 +167,61 @@ higher b bits entry stands =
     (stands.0, rest b bits (bit_of (length bits) entry.key) (way (length bits) entry.key) stands.1)
 
 module _ (bits : List Bool) (inside : length bits < key_bits) where
-  joined-stands : (left right new : Shape) → rejoined left right ≡ Ok new → StandsAt (false ∷ bits) left
+  joined-stands : (nothing : Digest) (left right new : Shape) → rejoined nothing left right ≡ Ok new → StandsAt (false ∷ bits) left
       → StandsAt (true ∷ bits) right → StandsAt bits new
-  joined-stands Empty Empty new is l r = subst (StandsAt bits) (done_injective {E = Error} Empty new is) tt
-  joined-stands Empty (One e) new is l r =
+  joined-stands nothing Empty Empty new is l r = subst (StandsAt bits) (done_injective {E = Error} Empty new is) tt
+  joined-stands nothing Empty (One e) new is l r =
       subst (StandsAt bits) (done_injective {E = Error} (One e) new is) (higher true bits e r)
-  joined-stands Empty (Fork a b) new is l r =
+  joined-stands nothing Empty (Fork a b) new is l r =
       subst (StandsAt bits) (done_injective {E = Error} (Fork Empty (Fork a b)) new is) (inside, omega arith, l, r)
-  joined-stands Empty (Hidden d) new is l r = absurd cc
-  joined-stands (One e) Empty new is l r =
+  joined-stands nothing Empty (Hidden d) new is l r = absurd cc
+  joined-stands nothing (One e) Empty new is l r =
       subst (StandsAt bits) (done_injective {E = Error} (One e) new is) (higher false bits e l)
-  joined-stands (One e) (One f) new is l r =
+  joined-stands nothing (One e) (One f) new is l r =
       subst (StandsAt bits) (done_injective {E = Error} (Fork (One e) (One f)) new is) (inside, omega arith, l, r)
-  joined-stands (One e) (Fork a b) new is l r =
+  joined-stands nothing (One e) (Fork a b) new is l r =
       subst (StandsAt bits) (done_injective {E = Error} (Fork (One e) (Fork a b)) new is) (inside, omega arith, l, r)
-  joined-stands (One e) (Hidden d) new is l r = absurd cc
-  joined-stands (Fork a b) Empty new is l r =
+  joined-stands nothing (One e) (Hidden d) new is l r =
+      let kept = fork-is (bytes_eq d nothing) (One e) (Hidden d) new is in
+      subst (StandsAt bits) kept.1 (inside, omega arith, l, r)
+  joined-stands nothing (Fork a b) Empty new is l r =
       subst (StandsAt bits) (done_injective {E = Error} (Fork (Fork a b) Empty) new is) (inside, omega arith, l, r)
-  joined-stands (Fork a b) (One e) new is l r =
+  joined-stands nothing (Fork a b) (One e) new is l r =
       subst (StandsAt bits) (done_injective {E = Error} (Fork (Fork a b) (One e)) new is) (inside, omega arith, l, r)
-  joined-stands (Fork a b) (Fork c d) new is l r =
+  joined-stands nothing (Fork a b) (Fork c d) new is l r =
       subst (StandsAt bits) (done_injective {E = Error} (Fork (Fork a b) (Fork c d)) new is) (inside, omega arith, l, r)
-  joined-stands (Fork a b) (Hidden d) new is l r =
+  joined-stands nothing (Fork a b) (Hidden d) new is l r =
       subst (StandsAt bits) (done_injective {E = Error} (Fork (Fork a b) (Hidden d)) new is) (inside, omega arith, l, r)
-  joined-stands (Hidden d) Empty new is l r = absurd cc
-  joined-stands (Hidden d) (One e) new is l r = absurd cc
-  joined-stands (Hidden d) (Fork a b) new is l r =
+  joined-stands nothing (Hidden d) Empty new is l r = absurd cc
+  joined-stands nothing (Hidden d) (One e) new is l r =
+      let kept = fork-is (bytes_eq d nothing) (Hidden d) (One e) new is in
+      subst (StandsAt bits) kept.1 (inside, omega arith, l, r)
+  joined-stands nothing (Hidden d) (Fork a b) new is l r =
       subst (StandsAt bits) (done_injective {E = Error} (Fork (Hidden d) (Fork a b)) new is) (inside, omega arith, l, r)
-  joined-stands (Hidden d) (Hidden e) new is l r = absurd cc
+  joined-stands nothing (Hidden d) (Hidden e) new is l r = absurd cc
 
-pub losing-stands : (bits : List Bool) (level : ℕ) (key : Key) (shape new : Shape) → StandsAt bits shape
-    → losing level key shape ≡ Ok new → StandsAt bits new
-losing-stands bits level key Empty new stands is = subst (StandsAt bits) (done_injective {E = Error} Empty new is) tt
-losing-stands bits level key (Hidden d) new stands is = absurd cc
-losing-stands bits level key (One entry) new stands is = by_test (bytes_eq entry.key key) is
+pub losing-stands : (nothing : Digest) (bits : List Bool) (level : ℕ) (key : Key) (shape new : Shape) → StandsAt bits shape
+    → losing nothing level key shape ≡ Ok new → StandsAt bits new
+losing-stands nothing bits level key Empty new stands is = subst (StandsAt bits) (done_injective {E = Error} Empty new is) tt
+losing-stands nothing bits level key (Hidden d) new stands is = absurd cc
+losing-stands nothing bits level key (One entry) new stands is = by_test (bytes_eq entry.key key) is
   where
     by_test : (b : Bool) → gives (if b then Empty else One entry) ≡ Ok new → StandsAt bits new
     by_test true is = subst (StandsAt bits) (done_injective {E = Error} Empty new is) tt
     by_test false is = subst (StandsAt bits) (done_injective {E = Error} (One entry) new is) stands
-losing-stands bits level key (Fork left right) new stands is = by_bit
-    (λ after. losing-stands (false ∷ bits) (suc level) key left after stands.2)
-    (λ after. losing-stands (true ∷ bits) (suc level) key right after stands.3) (bit_of level key) is
+losing-stands nothing bits level key (Fork left right) new stands is = by_bit
+    (λ after. losing-stands nothing (false ∷ bits) (suc level) key left after stands.2)
+    (λ after. losing-stands nothing (true ∷ bits) (suc level) key right after stands.3) (bit_of level key) is
   where
-    by_bit : ((after : Shape) → losing (suc level) key left ≡ Ok after → StandsAt (false ∷ bits) after)
-        → ((after : Shape) → losing (suc level) key right ≡ Ok after → StandsAt (true ∷ bits) after) → (b : Bool)
-        → (if b then (losing (suc level) key right >>= λ r. rejoined left r)
-        else (losing (suc level) key left >>= λ l. rejoined l right)) ≡ Ok new → StandsAt bits new
+    by_bit : ((after : Shape) → losing nothing (suc level) key left ≡ Ok after → StandsAt (false ∷ bits) after)
+        → ((after : Shape) → losing nothing (suc level) key right ≡ Ok after → StandsAt (true ∷ bits) after) → (b : Bool)
+        → (if b then (losing nothing (suc level) key right >>= λ r. rejoined nothing left r)
+        else (losing nothing (suc level) key left >>= λ l. rejoined nothing l right)) ≡ Ok new → StandsAt bits new
     by_bit on_left on_right true is =
-        let below = bind_ok (losing (suc level) key right) (λ r. rejoined left r) new is in
-        joined-stands bits stands.0 left below.0 new below.2 stands.2
+        let below = bind_ok (losing nothing (suc level) key right) (λ r. rejoined nothing left r) new is in
+        joined-stands bits stands.0 nothing left below.0 new below.2 stands.2
         (on_right below.0 below.1)
     by_bit on_left on_right false is =
-        let below = bind_ok (losing (suc level) key left) (λ l. rejoined l right) new is in
-        joined-stands bits stands.0 below.0 right new below.2
+        let below = bind_ok (losing nothing (suc level) key left) (λ l. rejoined nothing l right) new is in
+        joined-stands bits stands.0 nothing below.0 right new below.2
         (on_left below.0 below.1) stands.3

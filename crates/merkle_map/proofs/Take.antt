@@ -1,16 +1,18 @@
 -- What a tree shows of a map without a key.
 use Rattle.std.proofs.Common.{suc, ◌≡◌, ℕ, ◌+◌, ◌<◌, ◌≤◌, Bool, true, false, not, cond, if◌then◌else◌, Ok, List, [], ◌∷◌, length, arith, refl, ap, sym, ◌∙◌, subst}
 use Rattle.std.proofs.lemmas.List.Filters.{length-filter_both}
+use Rattle.std.proofs.lemmas.Slice.Eq.{bytes_eq-Decides}
 use Rattle.std.specs.Str.{bytes_eq}
 use Rattle.ark_base.specs.declared.error.Error.{Error}
 use Rattle.ark_base.specs.Outcome.{◌>>=◌}
 use Rattle.ark_base.specs.Laws.Steps.{bind_ok, done_injective}
 use Rattle.std.specs.List.{filter}
-use Rattle.merkle_map.specs.Map.{Key, Entry, MapHashes, bit_of, has_bit, side, key_bits, without}
+use Rattle.merkle_map.specs.Map.{Key, Digest, Entry, MapHashes, bit_of, has_bit, side, key_bits, without}
 use Rattle.merkle_map.specs.Tree.{Shape, Empty, One, Fork, Hidden, Shows}
 use Rattle.merkle_map.specs.Changes.{rejoined, losing}
 use Rattle.merkle_map.proofs.Answered.{gives}
 use Rattle.merkle_map.proofs.Entries.{side-without, other-without}
+use Rattle.merkle_map.proofs.Rest.{fork-is}
 
 -- where no element fails a test, all pass
 filter_all : {A : Type 0} (p q : A → Bool) → ((x : A) → q x ≡ not (p x)) → (xs : List A) → filter q xs ≡ []
@@ -53,8 +55,18 @@ module _ (h : MapHashes) (level : ℕ) where
   at_least left right entries a b inside two few many l r =
       (inside, omega (arith, two, few, many, both_sides level entries), l, r)
 
+  -- what has another digest than nothing has an entry
+  something : (d : Digest) → bytes_eq d h.nothing ≡ false → (below : List Entry)
+      → Shows h (suc level) (Hidden d) below → 1 ≤ length below
+  something d other (x ∷ xs) shown = omega arith
+  something d other [] shown = by_digest
+      (sym other ∙ (bytes_eq-Decides d h.nothing).1 (sym (done_injective {E = Error} h.nothing d shown)))
+    where
+      by_digest : false ≡ true → 1 ≤ 0
+      by_digest e = absurd cc
+
   -- what two sides show, they show together
-  pub joined-shows : (left right new : Shape) (entries : List Entry) → level < key_bits → rejoined left right ≡ Ok new
+  pub joined-shows : (left right new : Shape) (entries : List Entry) → level < key_bits → rejoined h.nothing left right ≡ Ok new
       → Shows h (suc level) left (side false level entries) → Shows h (suc level) right (side true level entries)
       → Shows h level new entries
   joined-shows Empty Empty new entries inside is l r =
@@ -78,19 +90,29 @@ module _ (h : MapHashes) (level : ℕ) where
   joined-shows (One e) (Fork a b) new entries inside is l r =
       subst (λ s. Shows h level s entries) (done_injective {E = Error} (Fork (One e) (Fork a b)) new is)
       (at_least (One e) (Fork a b) entries 0 2 inside (omega arith) (omega arith) r.1 l r)
-  joined-shows (One e) (Hidden d) new entries inside is l r = absurd cc
+  joined-shows (One e) (Hidden d) new entries inside is l r =
+      let kept = fork-is (bytes_eq d h.nothing) (One e) (Hidden d) new is in
+      let one = ap length l in
+      subst (λ s. Shows h level s entries) kept.1
+      (at_least (One e) (Hidden d) entries 1 1 inside (omega arith) (omega (arith, one))
+      (something d kept.0 (side true level entries) r) l r)
   joined-shows (Fork a b) right new entries inside is l r =
-      let all : rejoined (Fork a b) right ≡ Ok (Fork (Fork a b) right) = forks a b right in
+      let all : rejoined h.nothing (Fork a b) right ≡ Ok (Fork (Fork a b) right) = forks a b right in
       subst (λ s. Shows h level s entries) (done_injective {E = Error} (Fork (Fork a b) right) new (sym all ∙ is))
       (at_least (Fork a b) right entries 2 0 inside (omega arith) l.1 (omega arith) l r)
     where
-      forks : (a b right : Shape) → rejoined (Fork a b) right ≡ Ok (Fork (Fork a b) right)
+      forks : (a b right : Shape) → rejoined h.nothing (Fork a b) right ≡ Ok (Fork (Fork a b) right)
       forks a b Empty = refl
       forks a b (One e) = refl
       forks a b (Fork c d) = refl
       forks a b (Hidden d) = refl
   joined-shows (Hidden d) Empty new entries inside is l r = absurd cc
-  joined-shows (Hidden d) (One e) new entries inside is l r = absurd cc
+  joined-shows (Hidden d) (One e) new entries inside is l r =
+      let kept = fork-is (bytes_eq d h.nothing) (Hidden d) (One e) new is in
+      let one = ap length r in
+      subst (λ s. Shows h level s entries) kept.1
+      (at_least (Hidden d) (One e) entries 1 1 inside (omega arith) (something d kept.0 (side false level entries) l)
+      (omega (arith, one)) l r)
   joined-shows (Hidden d) (Fork a b) new entries inside is l r =
       subst (λ s. Shows h level s entries) (done_injective {E = Error} (Fork (Hidden d) (Fork a b)) new is)
       (at_least (Hidden d) (Fork a b) entries 0 2 inside (omega arith) (omega arith) r.1 l r)
@@ -124,13 +146,13 @@ module _ (h : MapHashes) (level : ℕ) where
 
 module _ (h : MapHashes) where
   abbrev Below : ℕ → Key → List Entry → Bool → Shape → Type 0
-  Below level key entries b below = (after : Shape) → losing (suc level) key below ≡ Ok after
+  Below level key entries b below = (after : Shape) → losing h.nothing (suc level) key below ≡ Ok after
       → Shows h (suc level) below (side b level entries) → Shows h (suc level) after (without key
       (side b level entries))
 
   -- what a tree shows, it shows without the key once it has lost its entry
   pub losing-shows : (level : ℕ) (key : Key) (shape new : Shape) (entries : List Entry)
-      → losing level key shape ≡ Ok new
+      → losing h.nothing level key shape ≡ Ok new
       → Shows h level shape entries → Shows h level new (without key entries)
   losing-shows level key Empty new entries is shown =
       subst (λ s. Shows h level s (without key entries)) (done_injective {E = Error} Empty new is) (ap
@@ -151,14 +173,14 @@ module _ (h : MapHashes) where
     where
       by_bit : Below level key entries false left → Below level key entries true right → (b : Bool)
           → bit_of level key ≡ b
-          → (if b then (losing (suc level) key right >>= λ r. rejoined left r)
-          else (losing (suc level) key left >>= λ l. rejoined l right)) ≡ Ok new
+          → (if b then (losing h.nothing (suc level) key right >>= λ r. rejoined h.nothing left r)
+          else (losing h.nothing (suc level) key left >>= λ l. rejoined h.nothing l right)) ≡ Ok new
           → Shows h level new (without key entries)
       by_bit on_left on_right true bit is =
-          let below = bind_ok (losing (suc level) key right) (λ r. rejoined left r) new is in
+          let below = bind_ok (losing h.nothing (suc level) key right) (λ r. rejoined h.nothing left r) new is in
           let sides = take-on h level true key left right below.0 entries bit shown (on_right below.0 below.1) in
           joined-shows h level left below.0 new (without key entries) shown.0 below.2 sides.0 sides.1
       by_bit on_left on_right false bit is =
-          let below = bind_ok (losing (suc level) key left) (λ l. rejoined l right) new is in
+          let below = bind_ok (losing h.nothing (suc level) key left) (λ l. rejoined h.nothing l right) new is in
           let sides = take-on h level false key left right below.0 entries bit shown (on_left below.0 below.1) in
           joined-shows h level below.0 right new (without key entries) shown.0 below.2 sides.0 sides.1

@@ -8,8 +8,8 @@ use Rattle.ark_base.specs.Outcome.{Outcome, ◌>>=◌, AnswersBy}
 use Rattle.ark_base.specs.Laws.Steps.{done_injective}
 use Rattle.merkle_map.specs.Map.{Key, Digest, Entry, MapHashes, bit_of, has_bit, side, key_bits, value_at, IsMap}
 use Rattle.merkle_map.specs.Tree.{Shape, Empty, One, Fork, Hidden, IsWhole, Shows, way, weight, StandsAt}
-use Rattle.merkle_map.specs.Changes.{known_at, two_of, with_value, rejoined, losing, losing_known, tree_without, outcome_with}
-use Rattle.merkle_map.specs.Shown.{Follows}
+use Rattle.merkle_map.specs.Changes.{known_at, two_of, with_value, rejoined, losing, losing_known, tree_without}
+use Rattle.merkle_map.specs.Shown.{Follows, FollowsBy}
 use Rattle.merkle_map.specs.Whole.{entries_of, IsStoreOf, Stores, IsRootOf}
 use Rattle.merkle_map.proofs.Answered.{gives}
 use Rattle.merkle_map.proofs.Entries.{own_bit, other_bit}
@@ -19,7 +19,7 @@ use Rattle.merkle_map.proofs.Rest.{IsSeen}
 use Rattle.merkle_map.proofs.Shows.{shows-digest}
 
 -- hashes of no use
-abbrev plain : MapHashes
+abbrev pub plain : MapHashes
 plain = record { nothing = []; leaf = λ key value. Ok []; pair = λ left right. Ok [] }
 
 -- ---- bits on a way
@@ -200,94 +200,95 @@ whole-seen (One e) whole = tt
 whole-seen (Fork l r) whole = tt
 whole-seen (Hidden d) whole = absurd whole
 
-whole-joined : (l r : Shape) → IsWhole l → IsWhole r → (n : Shape) × (rejoined l r ≡ Ok n) × IsWhole n
-whole-joined Empty Empty a b = (Empty, refl, tt)
-whole-joined Empty (One f) a b = (One f, refl, tt)
-whole-joined Empty (Fork x y) a b = (Fork Empty (Fork x y), refl, (tt, b))
-whole-joined Empty (Hidden d) a b = absurd b
-whole-joined (One e) Empty a b = (One e, refl, tt)
-whole-joined (One e) (One f) a b = (Fork (One e) (One f), refl, (tt, tt))
-whole-joined (One e) (Fork x y) a b = (Fork (One e) (Fork x y), refl, (tt, b))
-whole-joined (One e) (Hidden d) a b = absurd b
-whole-joined (Fork v w) Empty a b = (Fork (Fork v w) Empty, refl, (a, tt))
-whole-joined (Fork v w) (One f) a b = (Fork (Fork v w) (One f), refl, (a, tt))
-whole-joined (Fork v w) (Fork x y) a b = (Fork (Fork v w) (Fork x y), refl, (a, b))
-whole-joined (Fork v w) (Hidden d) a b = absurd b
-whole-joined (Hidden d) r a b = absurd a
+whole-joined : (nothing : Digest) (l r : Shape) → IsWhole l → IsWhole r → (n : Shape) × (rejoined nothing l r ≡ Ok n) × IsWhole n
+whole-joined nothing Empty Empty a b = (Empty, refl, tt)
+whole-joined nothing Empty (One f) a b = (One f, refl, tt)
+whole-joined nothing Empty (Fork x y) a b = (Fork Empty (Fork x y), refl, (tt, b))
+whole-joined nothing Empty (Hidden d) a b = absurd b
+whole-joined nothing (One e) Empty a b = (One e, refl, tt)
+whole-joined nothing (One e) (One f) a b = (Fork (One e) (One f), refl, (tt, tt))
+whole-joined nothing (One e) (Fork x y) a b = (Fork (One e) (Fork x y), refl, (tt, b))
+whole-joined nothing (One e) (Hidden d) a b = absurd b
+whole-joined nothing (Fork v w) Empty a b = (Fork (Fork v w) Empty, refl, (a, tt))
+whole-joined nothing (Fork v w) (One f) a b = (Fork (Fork v w) (One f), refl, (a, tt))
+whole-joined nothing (Fork v w) (Fork x y) a b = (Fork (Fork v w) (Fork x y), refl, (a, b))
+whole-joined nothing (Fork v w) (Hidden d) a b = absurd b
+whole-joined nothing (Hidden d) r a b = absurd a
 
-losing-whole : (level : ℕ) (key : Key) (s : Shape) → IsWhole s → (n : Shape) × (losing level key s ≡ Ok n) × IsWhole n
-losing-whole level key Empty whole = (Empty, refl, tt)
-losing-whole level key (Hidden d) whole = absurd whole
-losing-whole level key (One e) whole = by_test (bytes_eq e.key key)
+losing-whole : (nothing : Digest) (level : ℕ) (key : Key) (s : Shape) → IsWhole s → (n : Shape) × (losing nothing level key s ≡ Ok n) × IsWhole n
+losing-whole nothing level key Empty whole = (Empty, refl, tt)
+losing-whole nothing level key (Hidden d) whole = absurd whole
+losing-whole nothing level key (One e) whole = by_test (bytes_eq e.key key)
   where
     by_test : (b : Bool) → (n : Shape) × (gives (if b then Empty else One e) ≡ Ok n) × IsWhole n
     by_test true = (Empty, refl, tt)
     by_test false = (One e, refl, tt)
-losing-whole level key (Fork l r) whole =
-    by_bit (losing-whole (suc level) key l whole.0) (losing-whole (suc level) key r whole.1)
+losing-whole nothing level key (Fork l r) whole =
+    by_bit (losing-whole nothing (suc level) key l whole.0) (losing-whole nothing (suc level) key r whole.1)
     (bit_of level key)
   where
-    by_bit : (n : Shape) × (losing (suc level) key l ≡ Ok n) × IsWhole n
-        → (n : Shape) × (losing (suc level) key r ≡ Ok n) × IsWhole n
-        → (b : Bool) → (n : Shape) × ((if b then (losing (suc level) key r >>= λ r. rejoined l r)
-        else (losing (suc level) key l >>= λ l. rejoined l r)) ≡ Ok n) × IsWhole n
-    by_bit a b true = let j = whole-joined l b.0 whole.0 b.2 in
-        (j.0, ap (λ o. o >>= λ r. rejoined l r) b.1 ∙ j.1, j.2)
-    by_bit a b false = let j = whole-joined a.0 r a.2 whole.1 in
-        (j.0, ap (λ o. o >>= λ l. rejoined l r) a.1 ∙ j.1, j.2)
+    by_bit : (n : Shape) × (losing nothing (suc level) key l ≡ Ok n) × IsWhole n
+        → (n : Shape) × (losing nothing (suc level) key r ≡ Ok n) × IsWhole n
+        → (b : Bool) → (n : Shape) × ((if b then (losing nothing (suc level) key r >>= λ r. rejoined nothing l r)
+        else (losing nothing (suc level) key l >>= λ l. rejoined nothing l r)) ≡ Ok n) × IsWhole n
+    by_bit a b true = let j = whole-joined nothing l b.0 whole.0 b.2 in
+        (j.0, ap (λ o. o >>= λ r. rejoined nothing l r) b.1 ∙ j.1, j.2)
+    by_bit a b false = let j = whole-joined nothing a.0 r a.2 whole.1 in
+        (j.0, ap (λ o. o >>= λ l. rejoined nothing l r) a.1 ∙ j.1, j.2)
 
-without-whole : (key : Key) (s : Shape) → IsWhole s → (n : Shape) × (tree_without key s ≡ Ok n) × IsWhole n
-without-whole key s whole = by_known (known_at 0 key s) (whole-known plain 0 key s whole)
+without-whole : (nothing : Digest) (key : Key) (s : Shape) → IsWhole s → (n : Shape) × (tree_without nothing key s ≡ Ok n) × IsWhole n
+without-whole nothing key s whole = by_known (known_at 0 key s) (whole-known plain 0 key s whole)
   where
-    by_known : (o : Outcome (Option Digest)) → IsOk o → (n : Shape) × ((o >>= losing_known key s) ≡ Ok n) × IsWhole n
+    by_known : (o : Outcome (Option Digest)) → IsOk o → (n : Shape) × ((o >>= losing_known nothing key s) ≡ Ok n) × IsWhole n
     by_known (Ok None) ok = (s, refl, whole)
-    by_known (Ok (Some value)) ok = losing-whole 0 key s whole
+    by_known (Ok (Some value)) ok = losing-whole nothing 0 key s whole
     by_known (Err error) ok = absurd cc
 
 -- ---- stores
 
 -- whole trees have one map
-store-of : (entries : List Entry) (s : Shape) → IsWhole s → StandsAt [] s → Shows plain 0 s entries
+store-of : (h : MapHashes) (entries : List Entry) (s : Shape) → IsWhole s → StandsAt [] s → Shows h 0 s entries
     → IsStoreOf entries s
-store-of entries s whole stands shown = record {
+store-of h entries s whole stands shown = record {
   whole = whole;
   same = λ key.
-      let own = whole-shows plain [] 0 s refl whole stands in
-      by_known key own (known_at 0 key s) refl (whole-known plain 0 key s whole);
+      let own = whole-shows h [] 0 s refl whole stands in
+      by_known key own (known_at 0 key s) refl (whole-known h 0 key s whole);
 }
   where
-    by_known : (key : Key) → Shows plain 0 s (entries_of s) → (o : Outcome (Option Digest)) → known_at 0 key s ≡ o
+    by_known : (key : Key) → Shows h 0 s (entries_of s) → (o : Outcome (Option Digest)) → known_at 0 key s ≡ o
         → IsOk o
         → value_at key (entries_of s) ≡ value_at key entries
     by_known key own (Ok value) is ok =
-        known-shown plain key 0 s (entries_of s) value own is ∙ sym (known-shown plain key 0 s entries value shown is)
+        known-shown h key 0 s (entries_of s) value own is ∙ sym (known-shown h key 0 s entries value shown is)
     by_known key own (Err error) is ok = absurd cc
 
-module _ (change : List Entry → List Entry) (old new : Shape) (stands : StandsAt [] old) (after : StandsAt [] new) where
+module _ (h : MapHashes) (change : List Entry → List Entry) (old new : Shape) (stands : StandsAt [] old)
+    (after : StandsAt [] new) where
   pub stores : {A : Type 0} (next : Outcome Shape) (result : Outcome A)
       → (IsWhole old → (n : Shape) × (next ≡ Ok n) × IsWhole n) → AnswersBy (λ _. new) next result
-      → OnOk result (Follows change old new) → Stores change old new result
+      → OnOk result (FollowsBy h change old new) → Stores change old new result
   stores next (Ok x) can answered follows = λ whole.
       let n = can whole in
       let same : n.0 ≡ new = done_injective {E = Error} n.0 new (sym n.1 ∙ answered) in (
-        store-of (change (entries_of old)) new (subst IsWhole same n.2) after (follows plain (entries_of old)
-            (whole-map [] old stands) (whole-shows plain [] 0 old refl whole stands)),
+        store-of h (change (entries_of old)) new (subst IsWhole same n.2) after (follows (entries_of old)
+            (whole-map [] old stands) (whole-shows h [] 0 old refl whole stands)),
         tt,
       )
   stores next (Err error) can (inl memory) follows = λ whole. (tt, memory)
   stores next (Err error) can (inr is) follows = λ whole. let n = can whole in absurd cc
 
+-- what follows under all hashes follows under some
+pub under : {A : Type 0} (h : MapHashes) (change : List Entry → List Entry) (old new : Shape) (result : Outcome A)
+    → OnOk result (Follows change old new) → OnOk result (FollowsBy h change old new)
+under h change old new (Ok x) follows = follows h
+under h change old new (Err error) follows = tt
+
 pub put-can : (own : Entry) (old : Shape) → IsWhole old → (n : Shape) × (with_value 0 own old ≡ Ok n) × IsWhole n
 put-can own old whole = with-whole own 0 old whole
 
-pub remove-can : (key : Key) (old : Shape) → IsWhole old → (n : Shape) × (tree_without key old ≡ Ok n) × IsWhole n
-remove-can key old whole = without-whole key old whole
+pub remove-can : (nothing : Digest) (key : Key) (old : Shape) → IsWhole old → (n : Shape) × (tree_without nothing key old ≡ Ok n) × IsWhole n
+remove-can nothing key old whole = without-whole nothing key old whole
 
 pub root-of-store : (h : MapHashes) (s : Shape) → StandsAt [] s → IsRootOf h s
 root-of-store h s stands whole = shows-digest h 0 s (entries_of s) (whole-shows h [] 0 s refl whole stands)
-
--- an exact result as an answer
-pub exact : {A : Type 0} (new : Shape) (next : Outcome Shape) (result : Outcome A) → next ≡ outcome_with new result
-    → AnswersBy (λ _. new) next result
-exact new next (Ok x) e = e
-exact new next (Err error) e = inr e

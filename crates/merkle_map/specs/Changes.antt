@@ -49,18 +49,20 @@ with_value level new (Hidden digest) = Err hides
 
 -- ---- a key is removed
 
--- The tree of two sides, one of which may have lost an entry: an only entry stands alone. Beside one entry or none,
--- what is hidden would have to be known.
-abbrev pub rejoined : Shape → Shape → Outcome Shape
-rejoined Empty Empty = Ok Empty
-rejoined Empty (One entry) = Ok (One entry)
-rejoined Empty (Hidden digest) = Err hides
-rejoined (One entry) Empty = Ok (One entry)
-rejoined (One entry) (Hidden digest) = Err hides
-rejoined (Hidden digest) Empty = Err hides
-rejoined (Hidden digest) (One entry) = Err hides
-rejoined (Hidden digest) (Hidden other) = Err hides
-rejoined left right = Ok (Fork left right)
+-- The tree of two sides, one of which may have lost an entry: an only entry stands alone. What is hidden beside it is
+-- something where its digest is not that of nothing. Beside no entry, what is hidden would have to be known.
+abbrev pub rejoined : Digest → Shape → Shape → Outcome Shape
+rejoined nothing Empty Empty = Ok Empty
+rejoined nothing Empty (One entry) = Ok (One entry)
+rejoined nothing Empty (Hidden digest) = Err hides
+rejoined nothing (One entry) Empty = Ok (One entry)
+rejoined nothing (One entry) (Hidden digest) =
+    if bytes_eq digest nothing then Err hides else Ok (Fork (One entry) (Hidden digest))
+rejoined nothing (Hidden digest) Empty = Err hides
+rejoined nothing (Hidden digest) (One entry) =
+    if bytes_eq digest nothing then Err hides else Ok (Fork (Hidden digest) (One entry))
+rejoined nothing (Hidden digest) (Hidden other) = Err hides
+rejoined nothing left right = Ok (Fork left right)
 
 -- The tree is that of both sides, beside another that is empty.
 abbrev pub is_alone : Shape → Shape → Bool
@@ -69,25 +71,25 @@ is_alone (One entry) Empty = true
 is_alone tree beside = false
 
 -- a tree after its two sides were joined
-abbrev pub collapsed : Shape → Outcome Shape
-collapsed Empty = Ok Empty
-collapsed (One entry) = Ok (One entry)
-collapsed (Fork left right) = rejoined left right
-collapsed (Hidden digest) = Ok (Hidden digest)
+abbrev pub collapsed : Digest → Shape → Outcome Shape
+collapsed nothing Empty = Ok Empty
+collapsed nothing (One entry) = Ok (One entry)
+collapsed nothing (Fork left right) = rejoined nothing left right
+collapsed nothing (Hidden digest) = Ok (Hidden digest)
 
 -- the tree that has lost the entry of a key
-abbrev pub losing : ℕ → Key → Shape → Outcome Shape
-losing level key Empty = Ok Empty
-losing level key (One entry) = Ok (if bytes_eq entry.key key then Empty else One entry)
-losing level key (Fork left right) = if bit_of level key
-    then (losing (suc level) key right >>= λ r. rejoined left r)
-    else (losing (suc level) key left >>= λ l. rejoined l right)
-losing level key (Hidden digest) = Err hides
+abbrev pub losing : Digest → ℕ → Key → Shape → Outcome Shape
+losing nothing level key Empty = Ok Empty
+losing nothing level key (One entry) = Ok (if bytes_eq entry.key key then Empty else One entry)
+losing nothing level key (Fork left right) = if bit_of level key
+    then (losing nothing (suc level) key right >>= λ r. rejoined nothing left r)
+    else (losing nothing (suc level) key left >>= λ l. rejoined nothing l right)
+losing nothing level key (Hidden digest) = Err hides
 
 -- the tree that has lost the entry of a key, if it has one
-abbrev pub losing_known : Key → Shape → Option Digest → Outcome Shape
-losing_known key shape None = Ok shape
-losing_known key shape (Some value) = losing 0 key shape
+abbrev pub losing_known : Digest → Key → Shape → Option Digest → Outcome Shape
+losing_known nothing key shape None = Ok shape
+losing_known nothing key shape (Some value) = losing nothing 0 key shape
 
 -- ---- whole trees
 
@@ -96,8 +98,8 @@ abbrev pub tree_with_value : Key → Digest → Shape → Outcome Shape
 tree_with_value key value shape = with_value 0 (entry_of key value) shape
 
 -- the tree without a key; one that has nothing at the key stays as it is
-abbrev pub tree_without : Key → Shape → Outcome Shape
-tree_without key shape = known_at 0 key shape >>= losing_known key shape
+abbrev pub tree_without : Digest → Key → Shape → Outcome Shape
+tree_without nothing key shape = known_at 0 key shape >>= losing_known nothing key shape
 
 -- The outcome is this tree, unless it is an error.
 abbrev pub Becomes : Outcome Shape → Shape → Type 0

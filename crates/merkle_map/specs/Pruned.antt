@@ -2,7 +2,7 @@
 use Rattle.std.specs.Prelude.{◌≡◌, ◌⊎◌, ◌<◌, ℕ, suc, Bool, true, false, List, [], ◌∷◌, IsOk, Ok}
 use Rattle.std.specs.List.{filter}
 use Rattle.ark_base.specs.Outcome.{Outcome, ◌>>=◌}
-use Rattle.merkle_map.specs.Map.{Key, Entry, MapHashes, has_bit, key_bits}
+use Rattle.merkle_map.specs.Map.{Key, Digest, Entry, MapHashes, has_bit, key_bits}
 use Rattle.merkle_map.specs.Tree.{Shape, Empty, One, Fork, Hidden, shape_digest, Shows}
 use Rattle.merkle_map.specs.Changes.{known_at, tree_without}
 
@@ -56,5 +56,5 @@ abbrev pub ShowsSame : MapHashes → Shape → Shape → Type 0
 ShowsSame h old new = (entries : List Entry) → Shows h 0 old entries → Shows h 0 new entries
 
 -- Each of the keys can be removed from the tree.
-abbrev pub CanLose : List Key → Shape → Type 0
-CanLose keys shape = (key : Key) → IsAmong key keys → IsOk (tree_without key shape)
+abbrev pub CanLose : Digest → List Key → Shape → Type 0
+CanLose nothing keys shape = (key : Key) → IsAmong key keys → IsOk (tree_without nothing key shape)

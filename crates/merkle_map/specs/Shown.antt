@@ -9,10 +9,14 @@ use Rattle.merkle_map.specs.Tree.{Shape, Shows, ShowsOrCollides, shape_digest}
 abbrev pub Has : Shape → Key → Option Digest → Type 0
 Has shape key value = (h : MapHashes) (entries : List Entry) → Shows h 0 shape entries → value_at key entries ≡ value
 
--- Each map that the old tree shows is shown by the new one once it is changed.
-abbrev pub Follows : (List Entry → List Entry) → Shape → Shape → Type 0
-Follows change old new = (h : MapHashes) (entries : List Entry) → IsMap entries → Shows h 0 old entries
+-- Each map that the old tree shows under these hashes is shown by the new one once it is changed.
+abbrev pub FollowsBy : MapHashes → (List Entry → List Entry) → Shape → Shape → Type 0
+FollowsBy h change old new = (entries : List Entry) → IsMap entries → Shows h 0 old entries
     → Shows h 0 new (change entries)
+
+-- It is so under all hashes.
+abbrev pub Follows : (List Entry → List Entry) → Shape → Shape → Type 0
+Follows change old new = (h : MapHashes) → FollowsBy h change old new
 
 -- whether the tree has this digest
 abbrev pub has_digest : MapHashes → Digest → Shape → Outcome Bool

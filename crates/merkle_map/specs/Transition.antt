@@ -28,20 +28,20 @@ abbrev pub changed_by_all : List ChangeSeen → List Entry → List Entry
 changed_by_all [] entries = entries
 changed_by_all (change ∷ changes) entries = changed_by_all changes (changed_by change entries)
 
--- a tree after a change
-abbrev pub tree_after : ChangeSeen → Shape → Outcome Shape
-tree_after (Puts key value) tree = tree_with_value key value tree
-tree_after (Removes key) tree = tree_without key tree
+-- a tree after a change, by the digest of nothing
+abbrev pub tree_after : Digest → ChangeSeen → Shape → Outcome Shape
+tree_after nothing (Puts key value) tree = tree_with_value key value tree
+tree_after nothing (Removes key) tree = tree_without nothing key tree
 
 -- a tree after changes, the first one first
-abbrev pub tree_after_all : List ChangeSeen → Shape → Outcome Shape
-tree_after_all [] tree = Ok tree
-tree_after_all (change ∷ changes) tree = tree_after change tree >>= tree_after_all changes
+abbrev pub tree_after_all : Digest → List ChangeSeen → Shape → Outcome Shape
+tree_after_all nothing [] tree = Ok tree
+tree_after_all nothing (change ∷ changes) tree = tree_after nothing change tree >>= tree_after_all nothing changes
 
 -- whether a tree has the old root and, after the changes, the new one
 abbrev pub transition_verdict : MapHashes → Digest → Digest → List ChangeSeen → Shape → Outcome Bool
 transition_verdict h old new changes tree = has_digest h old tree >>= λ is_old.
-    if is_old then (tree_after_all changes tree >>= has_digest h new) else Ok false
+    if is_old then (tree_after_all h.nothing changes tree >>= has_digest h new) else Ok false
 
 -- Each map with the old root has the new one after the changes, or collides with the tree below bits that are named.
 abbrev pub LeadsTo : MapHashes → Digest → Digest → Shape → List ChangeSeen → Type 0
@@ -52,7 +52,7 @@ LeadsTo h old new tree changes = (entries : List Entry) → IsMap entries → ro
 -- a tree after changes, if it has this root
 abbrev pub changed_tree : MapHashes → Digest → List ChangeSeen → Shape → Outcome (Option Shape)
 changed_tree h root changes tree = has_digest h root tree >>= λ is_it.
-    if is_it then (tree_after_all changes tree >>= λ new. Ok (Some new)) else Ok None
+    if is_it then (tree_after_all h.nothing changes tree >>= λ new. Ok (Some new)) else Ok None
 
 -- Each map with the old root has the new tree's after the changes, or collides with the tree below bits that are named.
 abbrev pub LeadsOn : MapHashes → Digest → Shape → List ChangeSeen → Shape → Type 0

@@ -15,7 +15,7 @@ use crate::key::copy_digest;
 use crate::part::{Entry, Part, find_entry};
 use crate::proof::{KeyProof, climb_down};
 use crate::put::put_in;
-use crate::remove::remove_from;
+use crate::remove::remove_shown;
 use crate::together::{FEW, fill, fill_together};
 use crate::transition::Change;
 use ark_base::error::Error;
@@ -109,10 +109,7 @@ impl<D: DigestItem, T: MapHasher<D>> KeptMap<D, T> {
         ensures hasher { self.new.hasher ≡ self.old.hasher }
     {
         self.changes = one_more(self.changes);
-        match remove_from(&mut self.top, key) {
-            Ok(()) => {}
-            Err(_) => {}
-        }
+        remove_shown(&mut self.top, key);
     }
 
     // Returns the change that gives a key what it has. The only error is `OutOfMemory`.

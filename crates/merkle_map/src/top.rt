@@ -3,7 +3,7 @@
 ghost use Rattle.std.specs.Prelude.{◌≡◌, ◌++◌, [], map, IfErr, IfOk, OnErr, OnOk};
 ghost use Rattle.ark_base.specs.Outcome.{AnswersBy, IsMemory};
 ghost use Rattle.merkle_map.specs.Bytes.{itself, spelled, IsOf32};
-ghost use Rattle.merkle_map.specs.Changes.{known_at, outcome_with, tree_without, with_value};
+ghost use Rattle.merkle_map.specs.Changes.{known_at, tree_without, with_value};
 ghost use Rattle.merkle_map.specs.Kept.{IsTopKept};
 ghost use Rattle.merkle_map.specs.KeyProof.{behind_all, proof_at, seen_with};
 ghost use Rattle.merkle_map.specs.Map.{MapHashes};
@@ -62,17 +62,25 @@ pub fn put_top<D: DigestItem>(alloc: Global, top: &mut Top<D>, own: Entry<D>) ->
     }
 }
 
-// As `remove_from`.
-pub fn remove_top<D: DigestItem>(top: &mut Top<D>, key: &[u8; 32]) -> Result<(), Error>
+// As `remove_from`. The other error, which leaves the tree unchanged, is `OutOfMemory`.
+pub fn remove_top<D: DigestItem, T: MapHasher<D>>(
+    alloc: Global,
+    hasher: &T,
+    top: &mut Top<D>,
+    key: &[u8; 32],
+) -> Result<(), Error>
     requires { StandsAt [] (top_shape D.numbers top.old) }
-    ensures changed { tree_without key.now (top_shape D.numbers top.old)
-        ≡ outcome_with (top_shape D.numbers top.new) result }
+    ensures changed { AnswersBy (λ _. top_shape D.numbers top.new)
+        (tree_without (T.hashes hasher.now).nothing key.now (top_shape D.numbers top.old)) result }
     ensures kept { OnErr result (top_shape D.numbers top.new ≡ top_shape D.numbers top.old) }
     ensures digests { (h : MapHashes) → IsTopKept D.numbers h top.old
         → IsTopKept D.numbers h top.new }
 {
     match top {
-        Top::Shown { part } => remove_from(part, key),
+        Top::Shown { part } => {
+            let nothing = hasher.nothing(alloc)?;
+            remove_from(&nothing, part, key)
+        }
         Top::Digest { .. } => Err(hidden()),
     }
 }

@@ -2,7 +2,7 @@
 
 ghost use Rattle.std.specs.Prelude.{◌≡◌, true, List, map, IfOk, IfSome, OnOk, Ok};
 ghost use Rattle.ark_base.specs.Outcome.{Answers, AnswersBy};
-ghost use Rattle.merkle_map.specs.Shown.{Follows};
+ghost use Rattle.merkle_map.specs.Shown.{FollowsBy};
 ghost use Rattle.merkle_map.specs.Transition.{change_seen, changed_by, changed_by_all, tree_after, tree_after_all, changed_tree, transition_verdict, LeadsOn, LeadsTo};
 
 use crate::hasher::MapHasher;
@@ -22,38 +22,40 @@ pub enum Change<D> {
 }
 
 // Changes a tree. Errors, which leave it unchanged: those of `MapTree::insert` and of `MapTree::remove`.
-fn change_tree<D: DigestItem>(
+fn change_tree<D: DigestItem, T: MapHasher<D>>(
     alloc: Global,
+    hasher: &T,
     tree: &mut MapTree<D>,
     change: &Change<D>,
 ) -> Result<(), Error>
-    ensures changed { AnswersBy (λ _. tree.new) (tree_after (change_seen D.numbers change.now)
-        tree.old) result }
-    ensures maps { OnOk result (Follows (changed_by (change_seen D.numbers change.now)) tree.old
-        tree.new) }
+    ensures changed { AnswersBy (λ _. tree.new) (tree_after (T.hashes hasher.now).nothing
+        (change_seen D.numbers change.now) tree.old) result }
+    ensures maps { OnOk result (FollowsBy (T.hashes hasher.now)
+        (changed_by (change_seen D.numbers change.now)) tree.old tree.new) }
 {
     match change {
         Change::Put { key, value } => {
             let value = copy_digest(alloc, value)?;
             tree.insert(alloc, key, value)
         }
-        Change::Remove { key } => tree.remove(key),
+        Change::Remove { key } => tree.remove(alloc, hasher, key),
     }
 }
 
 // Makes all changes of a tree, the first one first. Errors, which leave some of them made: as of `change_tree`.
-fn change_all<D: DigestItem>(
+fn change_all<D: DigestItem, T: MapHasher<D>>(
     alloc: Global,
+    hasher: &T,
     tree: &mut MapTree<D>,
     changes: &[Change<D>],
 ) -> Result<(), Error>
-    ensures changed { AnswersBy (λ _. tree.new) (tree_after_all
+    ensures changed { AnswersBy (λ _. tree.new) (tree_after_all (T.hashes hasher.now).nothing
         (map (change_seen D.numbers) changes.now) tree.old) result }
-    ensures maps { OnOk result (Follows (changed_by_all (map (change_seen D.numbers) changes.now))
-        tree.old tree.new) }
+    ensures maps { OnOk result (FollowsBy (T.hashes hasher.now)
+        (changed_by_all (map (change_seen D.numbers) changes.now)) tree.old tree.new) }
 {
     'changes: for change in changes {
-        change_tree(alloc, tree, change)?;
+        change_tree(alloc, hasher, tree, change)?;
     }
     Ok(())
 }
@@ -83,7 +85,7 @@ pub fn verify_transition<D: DigestItem, T: MapHasher<D>>(
     if !tree.has_root(alloc, hasher, old_root)? {
         return Ok(false);
     }
-    change_all(alloc, &mut tree, changes)?;
+    change_all(alloc, hasher, &mut tree, changes)?;
     tree.has_root(alloc, hasher, new_root)
 }
 
@@ -108,6 +110,6 @@ pub fn change_from<D: DigestItem, T: MapHasher<D>>(
     if !tree.has_root(alloc, hasher, root)? {
         return Ok(None);
     }
-    change_all(alloc, &mut tree, changes)?;
+    change_all(alloc, hasher, &mut tree, changes)?;
     Ok(Some(tree))
 }

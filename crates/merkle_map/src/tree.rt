@@ -3,13 +3,13 @@
 ghost use Rattle.std.specs.Prelude.{◌≡◌, false, true, List, IfOk, OnOk, OnErr, Ok};
 ghost use Rattle.ark_base.specs.Outcome.{Answers, AnswersBy};
 ghost use Rattle.merkle_map.specs.Bytes.{spelled, tree_of_bytes, IsOf32, ReadsBack};
-ghost use Rattle.merkle_map.specs.Changes.{known_at, tree_with_value, tree_without, outcome_with};
+ghost use Rattle.merkle_map.specs.Changes.{known_at, tree_with_value, tree_without};
 ghost use Rattle.merkle_map.specs.KeyProof.{proof_at, proof_seen, IsKeyProofAccepted};
 ghost use Rattle.merkle_map.specs.Map.{Entry as EntryOf, put, root_of_map, without};
 ghost use Rattle.merkle_map.specs.Parts.{found_seen, value_seen};
 ghost use Rattle.merkle_map.specs.Pruned.{pruned, CanLose, KnowsSame, ShowsSame};
 ghost use Rattle.merkle_map.specs.Rows.{rows_of};
-ghost use Rattle.merkle_map.specs.Shown.{BindsTree, Follows, Has, has_digest};
+ghost use Rattle.merkle_map.specs.Shown.{BindsTree, Follows, FollowsBy, Has, has_digest};
 ghost use Rattle.merkle_map.specs.Tree.{shape_digest, Empty, Hidden, IsWhole, Shows};
 ghost use Rattle.merkle_map.specs.Whole.{IsRootOf, Stores};
 
@@ -106,19 +106,26 @@ impl<D: DigestItem> MapTree<D> {
 
     /// Removes a key. A tree that has nothing at the key stays as it is.
     ///
-    /// The error, which leaves the tree unchanged, is `HIDDEN`: the tree hides what is at the key, or whether an entry is
-    /// left alone.
-    pub fn remove(&mut self, key: &[u8; 32]) -> Result<(), Error>
-        ensures changed { tree_without key.now self.old ≡ outcome_with self.new result }
+    /// Errors, which leave the tree unchanged: `HIDDEN`: the tree hides what is at the key, or whether an entry is left alone;
+    /// `OutOfMemory`. A hidden tree beside a last entry hides nothing of that, unless its digest is that of nothing.
+    pub fn remove<T: MapHasher<D>>(
+        &mut self,
+        alloc: Global,
+        hasher: &T,
+        key: &[u8; 32],
+    ) -> Result<(), Error>
+        ensures changed { AnswersBy (λ _. self.new)
+            (tree_without (T.hashes hasher.now).nothing key.now self.old) result }
         ensures kept { OnErr result (self.new ≡ self.old) }
 
         // Each map that the tree showed is shown now without the key.
-        ensures maps { OnOk result (Follows (without key.now) self.old self.new) }
+        ensures maps { OnOk result (FollowsBy (T.hashes hasher.now) (without key.now) self.old
+            self.new) }
 
         // A store becomes the store of the map without the key.
         ensures store { Stores (without key.now) self.old self.new result }
     {
-        remove_top(&mut self.top, key)
+        remove_top(alloc, hasher, &mut self.top, key)
     }
 
     /// Returns the digest of the tree. Errors: those of the hashes, the lowest first, then the leftmost; `OutOfMemory`.
@@ -210,7 +217,8 @@ impl<D: DigestItem> MapTree<D> {
             ≡ shape_digest (T.hashes hasher.now) self.now) }
         ensures known { IfOk result (KnowsSame keys.now self.now) }
         ensures maps { IfOk result (ShowsSame (T.hashes hasher.now) self.now) }
-        ensures removes { IfOk result (λ new. IsWhole self.now → CanLose keys.now new) }
+        ensures removes { IfOk result (λ new. IsWhole self.now
+            → CanLose (T.hashes hasher.now).nothing keys.now new) }
     {
         self.pruned_for(alloc, hasher, true, keys)
     }

@@ -14,21 +14,21 @@ overflow_add-level-else-bit_of g t c =
     let inside = fork_within _ (ap (shape g.D.Numbered.numbers) c.in-Fork.is) _ c.requires in omega (arith, inside)
 
 pub returns-then-bit_of-clause-lost : goal.returns-then-bit_of-clause-lost
-returns-then-bit_of-clause-lost g t c =
+returns-then-bit_of-clause-lost g t c = λ nothing.
     let seen = shape g.D.Numbered.numbers in
-    becomes_side c.args.level
+    becomes_side nothing c.args.level
     (ap seen c.in-Fork.is ∙ ap (λ s. Fork (seen s.left) (seen s.right)) (sym c.deref_mut.ensures.value))
     c.args.key.now true (seen c.remove_in.new.part) (seen c.collapse.new.part) (sym c.bit_of.ensures ∙ c.if-bit_of.true)
-    c.remove_in.ensures.lost c.collapse.ensures.joined
+    (c.remove_in.ensures.lost nothing) (c.collapse.ensures.joined nothing)
 
 pub returns-else-bit_of-clause-lost : goal.returns-else-bit_of-clause-lost
-returns-else-bit_of-clause-lost g t c =
+returns-else-bit_of-clause-lost g t c = λ nothing.
     let seen = shape g.D.Numbered.numbers in
-    becomes_side c.args.level
+    becomes_side nothing c.args.level
     (ap seen c.in-Fork.is ∙ ap (λ s. Fork (seen s.left) (seen s.right)) (sym c.deref_mut.ensures.value))
     c.args.key.now false (seen c.remove_in-else-bit_of.new.part) (seen c.collapse-else-bit_of.new.part)
-    (sym c.bit_of.ensures ∙ c.if-bit_of.false) c.remove_in-else-bit_of.ensures.lost
-    c.collapse-else-bit_of.ensures.joined
+    (sym c.bit_of.ensures ∙ c.if-bit_of.false) (c.remove_in-else-bit_of.ensures.lost nothing)
+    (c.collapse-else-bit_of.ensures.joined nothing)
 
 pub returns-then-bit_of-clause-digests : goal.returns-then-bit_of-clause-digests
 returns-then-bit_of-clause-digests g t c = λ h kept.

@@ -5,7 +5,7 @@ use Rattle.merkle_map.specs.Parts.{shape}
 use Rattle.merkle_map.specs.Whole.{Stores, entries_of}
 use Rattle.merkle_map.proofs.Calls.{put-stands, put-follows}
 use Rattle.merkle_map.proofs.Keeping.{put-whole, same-of}
-use Rattle.merkle_map.proofs.Wholes.{put-can, stores}
+use Rattle.merkle_map.proofs.Wholes.{plain, put-can, stores, under}
 use Rattle.merkle_map.proofs.kept.KeptMap.insert.Goals.{After-put_in}
 use Rattle.merkle_map.proofs.kept.KeptMap.insert.Goals as goal
 
@@ -32,10 +32,11 @@ stored g c =
     let old = shape numbers c.self.inside.top in
     let new = shape numbers c.put_in.new.part in
     let stands = c.self.invariant.stands in
-    stores (put c.args.key.now (numbers c.args.value)) old new stands (put-stands own (c.told-key, c.fits-key) old new
+    stores plain (put c.args.key.now (numbers c.args.value)) old new stands (put-stands own (c.told-key, c.fits-key) old new
     stands c.put_in.result c.put_in.ensures.changed c.put_in.ensures.kept) (with_value 0 own old) c.put_in.result
     (put-can own old) c.put_in.ensures.changed
-    (put-follows own (c.told-key, c.fits-key) old new stands c.put_in.result c.put_in.ensures.changed)
+    (under plain (put c.args.key.now (numbers c.args.value)) old new c.put_in.result
+    (put-follows own (c.told-key, c.fits-key) old new stands c.put_in.result c.put_in.ensures.changed))
 
 pub returns-clause-put : goal.returns-clause-put
 returns-clause-put g c =

@@ -1,9 +1,9 @@
-use Rattle.std.proofs.Common.{subst}
+use Rattle.std.proofs.Common.{[], subst}
 use Rattle.merkle_map.specs.Map.{HaveSame, without}
 use Rattle.merkle_map.specs.Parts.{shape}
 use Rattle.merkle_map.specs.Whole.{entries_of}
-use Rattle.merkle_map.proofs.Calls.{without-follows, without-stands}
-use Rattle.merkle_map.proofs.Keeping.{without-same, without-whole}
+use Rattle.merkle_map.proofs.Calls.{returned, without-stands}
+use Rattle.merkle_map.proofs.Keeping.{now-whole, without-same, without-whole}
 use Rattle.merkle_map.proofs.kept.KeptMap.remove.Goals as goal
 
 pub invariant_of-self : goal.invariant_of-self
@@ -11,12 +11,12 @@ invariant_of-self g c =
     let numbers = g.D.Numbered.numbers in
     let key = c.args.key.now in
     let old = shape numbers c.self.inside.top in
-    let new = shape numbers c.remove_from.new.part in
+    let new = shape numbers c.remove_shown.new.part in
+    let is = without-whole old new c.self.invariant.whole key c.remove_shown.ensures.changed in
     record {
-      stands = without-stands key old new c.remove_from.result c.remove_from.ensures.changed c.remove_from.ensures.kept
-          c.self.invariant.stands;
-      whole = without-whole old new c.self.invariant.whole key c.remove_from.result c.remove_from.ensures.changed;
-      kept = c.remove_from.ensures.digests (g.T.MapHasher.hashes c.self.inside.hasher) c.self.invariant.kept;
+      stands = without-stands [] key old new returned is tt c.self.invariant.stands;
+      whole = now-whole old new c.self.invariant.whole key is;
+      kept = c.remove_shown.ensures.digests (g.T.MapHasher.hashes c.self.inside.hasher) c.self.invariant.kept;
     }
 
 pub returns-clause-removed : goal.returns-clause-removed
@@ -24,8 +24,7 @@ returns-clause-removed g c =
     let numbers = g.D.Numbered.numbers in
     let key = c.args.key.now in
     let old = shape numbers c.self.inside.top in
-    let new = shape numbers c.remove_from.new.part in
+    let new = shape numbers c.remove_shown.new.part in
     subst (λ map. HaveSame (entries_of new) (without key map.entries)) c.self.view_is
-    (without-same old new c.self.invariant.whole key c.remove_from.result c.self.invariant.stands
-    (invariant_of-self g c).stands c.remove_from.ensures.changed
-    (without-follows key old new c.remove_from.result c.remove_from.ensures.changed))
+    (without-same old new c.self.invariant.whole key c.self.invariant.stands (invariant_of-self g c).stands
+    (without-whole old new c.self.invariant.whole key c.remove_shown.ensures.changed))

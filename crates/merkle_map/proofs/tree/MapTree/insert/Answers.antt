@@ -1,7 +1,7 @@
 use Rattle.std.proofs.Common.{OnOk, subst}
 use Rattle.merkle_map.specs.Changes.{entry_of, with_value}
 use Rattle.merkle_map.specs.Whole.{Stores}
-use Rattle.merkle_map.proofs.Wholes.{stores, put-can}
+use Rattle.merkle_map.proofs.Wholes.{plain, stores, put-can, under}
 use Rattle.merkle_map.specs.Map.{put}
 use Rattle.merkle_map.specs.Parts.{top_shape}
 use Rattle.merkle_map.specs.Shown.{Follows}
@@ -34,7 +34,8 @@ returns-clause-store g c =
     let old = top_shape numbers c.self.inside.top in
     let new = top_shape numbers c.put_top.new.top in
     subst (λ s. Stores (put c.args.key.now (numbers c.args.value)) s new c.put_top.result) c.self.view_is
-    (stores (put c.args.key.now (numbers c.args.value)) old new c.self.invariant.0 (invariant_of-self g c).0
+    (stores plain (put c.args.key.now (numbers c.args.value)) old new c.self.invariant.0 (invariant_of-self g c).0
     (with_value 0 own old)
     c.put_top.result (put-can own old) c.put_top.ensures.changed
-    (put-follows own (c.told-key, c.fits-key) old new c.self.invariant.0 c.put_top.result c.put_top.ensures.changed))
+    (under plain (put c.args.key.now (numbers c.args.value)) old new c.put_top.result
+    (put-follows own (c.told-key, c.fits-key) old new c.self.invariant.0 c.put_top.result c.put_top.ensures.changed)))
