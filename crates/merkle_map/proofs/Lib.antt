@@ -24,3 +24,5 @@ pub mod Masks
 pub mod ProofReading
 pub mod Hashed
 pub mod Back
+mod Ready
+mod Witness

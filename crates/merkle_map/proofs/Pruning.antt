@@ -1,16 +1,16 @@
 -- What a pruned tree has and shows.
-use Rattle.std.proofs.Common.{suc, ◌≡◌, ℕ, Bool, true, false, cond, if◌then◌else◌, Ok, Err, IsOk, IfOk, Option, Some, None, List, [], ◌∷◌, length, arith, refl, ap, sym, ◌∙◌, subst, inl, inr}
+use Rattle.std.proofs.Common.{suc, ◌≡◌, ℕ, ◌+◌, ◌==◌, Bool, true, false, cond, if◌then◌else◌, Ok, Err, IsOk, IfOk, Option, Some, None, List, [], ◌∷◌, length, arith, refl, ap, sym, ◌∙◌, subst, inl, inr}
 use Rattle.std.specs.List.{filter}
+use Rattle.std.specs.Str.{bytes_eq}
 use Rattle.ark_base.specs.declared.error.Error.{Error}
 use Rattle.ark_base.specs.Outcome.{Outcome, ◌>>=◌, AnswersBy}
 use Rattle.ark_base.specs.Laws.Steps.{bind_ok, done_injective}
 use Rattle.merkle_map.specs.Map.{Key, Digest, Entry, MapHashes, bit_of, has_bit, side}
 use Rattle.merkle_map.specs.Tree.{Shape, Empty, One, Fork, Hidden, shape_digest, Shows, weight, StandsAt, IsWhole}
-use Rattle.merkle_map.specs.Changes.{known_at, losing, rejoined, losing_known}
-use Rattle.merkle_map.specs.Pruned.{covered, aside, keys_with, pruned, FitsKeys, IsAmong, CanLose}
+use Rattle.merkle_map.specs.Changes.{known_at}
+use Rattle.merkle_map.specs.Pruned.{covered, aside, is_needed, keys_with, pruned, FitsKeys, IsAmong}
 use Rattle.merkle_map.proofs.Answered.{gives}
 use Rattle.merkle_map.proofs.Entries.{own_bit}
-use Rattle.merkle_map.proofs.Rest.{IsSeen, seen-losing}
 use Rattle.merkle_map.proofs.Shows.{shows-digest}
 
 -- forks that stand on ways stand above the last bit
@@ -26,10 +26,10 @@ stands-fits bits level (Fork left right) long stands = (
 )
 
 -- an equation of outcomes as one of their values
-moved : (P : Shape → Type 0) (s n : Shape) → gives s ≡ Ok n → P s → P n
+pub moved : (P : Shape → Type 0) (s n : Shape) → gives s ≡ Ok n → P s → P n
 moved P s n e p = subst P (done_injective {E = Error} s n e) p
 
-among-filter : (p : Key → Bool) (key : Key) (keys : List Key) → p key ≡ true → IsAmong key keys
+pub among-filter : (p : Key → Bool) (key : Key) (keys : List Key) → p key ≡ true → IsAmong key keys
     → IsAmong key (filter p keys)
 among-filter p key [] has h = absurd h
 among-filter p key (first ∷ keys) has (inl same) =
@@ -57,19 +57,6 @@ module _ (h : MapHashes) where
     stands = λ stands. stands;
   })
 
-  covers : (level : ℕ) (bits : List Bool) (s n : Shape) → covered h s ≡ Ok n → IsCopy level bits s n
-  covers level bits Empty n e = same level bits Empty n e
-  covers level bits (One entry) n e = same level bits (One entry) n e
-  covers level bits (Hidden digest) n e = same level bits (Hidden digest) n e
-  covers level bits (Fork left right) n e =
-      let d = bind_ok (shape_digest h (Fork left right)) (λ digest. Ok (Hidden digest)) n e in
-      moved (IsCopy level bits (Fork left right)) (Hidden d.0) n d.2 (record {
-        digest = sym d.1;
-        shows = λ entries shown. shows-digest h level (Fork left right) entries shown ∙ d.1;
-        weighs = refl;
-        stands = λ stands. tt;
-      })
-
   forks : (level : ℕ) (bits : List Bool) (l r m n : Shape) → IsCopy (suc level) (false ∷ bits) l m
       → IsCopy (suc level) (true ∷ bits) r n → IsCopy level bits (Fork l r) (Fork m n)
   forks level bits l r m n on_left on_right = record {
@@ -90,6 +77,38 @@ module _ (h : MapHashes) where
     );
   }
 
+  abbrev pub covered-both : Shape → Shape → Outcome Shape
+  covered-both left right = covered h left >>= λ l. covered h right >>= λ r. Ok (Fork l r)
+
+  abbrev pub covered-by : Digest → Shape → Shape → Outcome Shape
+  covered-by digest left right =
+      if bytes_eq digest h.nothing then covered-both left right else gives (Hidden digest)
+
+  covers : (level : ℕ) (bits : List Bool) (s n : Shape) → covered h s ≡ Ok n → IsCopy level bits s n
+  covers level bits Empty n e = same level bits Empty n e
+  covers level bits (One entry) n e = same level bits (One entry) n e
+  covers level bits (Hidden digest) n e = same level bits (Hidden digest) n e
+  covers level bits (Fork left right) n e =
+      let d = bind_ok (shape_digest h (Fork left right)) (λ digest. covered-by digest left right) n e in
+      by_test d.0 d.1 (covers (suc level) (false ∷ bits) left) (covers (suc level) (true ∷ bits) right)
+      (bytes_eq d.0 h.nothing) d.2
+    where
+      by_test : (d : Digest) → shape_digest h (Fork left right) ≡ Ok d
+          → ((m : Shape) → covered h left ≡ Ok m → IsCopy (suc level) (false ∷ bits) left m)
+          → ((m : Shape) → covered h right ≡ Ok m → IsCopy (suc level) (true ∷ bits) right m) → (b : Bool)
+          → (if b then covered-both left right else gives (Hidden d)) ≡ Ok n → IsCopy level bits (Fork left right) n
+      by_test d is on_left on_right true e =
+          let l = bind_ok (covered h left) (λ l. covered h right >>= λ r. Ok (Fork l r)) n e in
+          let r = bind_ok (covered h right) (λ r. Ok (Fork l.0 r)) n l.2 in
+          moved (IsCopy level bits (Fork left right)) (Fork l.0 r.0) n r.2
+          (forks level bits left right l.0 r.0 (on_left l.0 l.1) (on_right r.0 r.1))
+      by_test d is on_left on_right false e = moved (IsCopy level bits (Fork left right)) (Hidden d) n e (record {
+        digest = sym is;
+        shows = λ entries shown. shows-digest h level (Fork left right) entries shown ∙ is;
+        weighs = refl;
+        stands = λ stands. tt;
+      })
+
   asides : (tops : Bool) (level : ℕ) (bits : List Bool) (s n : Shape) → aside h tops s ≡ Ok n → IsCopy level bits s n
   asides false level bits s n e = covers level bits s n e
   asides true level bits Empty n e = same level bits Empty n e
@@ -103,38 +122,91 @@ module _ (h : MapHashes) where
 
   -- ---- a pruned tree is a copy
 
-  pub prunes : (tops : Bool) (level : ℕ) (bits : List Bool) (keys : List Key) (s n : Shape)
-      → pruned h tops level keys s ≡ Ok n
+  -- the sides of a fork, with the keys that stand on both
+  abbrev pub left-pruned : Bool → ℕ → List Key → Shape → Shape → Outcome Shape
+  left-pruned tops level keys left right =
+      pruned h tops (is_needed tops (keys_with false level keys) (suc level) (keys_with true level keys) right)
+      (suc level) (keys_with false level keys) left
+
+  abbrev pub right-pruned : Bool → ℕ → List Key → Shape → Shape → Outcome Shape
+  right-pruned tops level keys left right =
+      pruned h tops (is_needed tops (keys_with true level keys) (suc level) (keys_with false level keys) left)
+      (suc level) (keys_with true level keys) right
+
+  pub sides-of : (tops is_shown : Bool) (level : ℕ) (key : Key) (keys : List Key) (left right n : Shape)
+      → pruned h tops is_shown level (key ∷ keys) (Fork left right) ≡ Ok n
+      → (l : Shape) × (r : Shape) × (left-pruned tops level (key ∷ keys) left right ≡ Ok l)
+      × (right-pruned tops level (key ∷ keys) left right ≡ Ok r) × (gives (Fork l r) ≡ Ok n)
+  sides-of tops is_shown level key keys left right n e =
+      let l = bind_ok (left-pruned tops level (key ∷ keys) left right)
+      (λ l. right-pruned tops level (key ∷ keys) left right >>= λ r. Ok (Fork l r)) n e in
+      let r = bind_ok (right-pruned tops level (key ∷ keys) left right) (λ r. Ok (Fork l.0 r)) n l.2 in
+      (l.0, r.0, l.1, r.1, r.2)
+
+  -- a fork is pruned by its sides
+  pub fork-made : (tops is_shown : Bool) (level : ℕ) (keys on_left on_right : List Key) (whole left right l r : Shape)
+      (is_left is_right : Bool) → (length keys == 0) ≡ false → whole ≡ Fork left right
+      → gives (keys_with false level keys) ≡ Ok on_left → gives (keys_with true level keys) ≡ Ok on_right
+      → gives (is_needed tops on_left (level + 1) on_right right) ≡ Ok is_left
+      → gives (is_needed tops on_right (level + 1) on_left left) ≡ Ok is_right
+      → pruned h tops is_left (level + 1) on_left left ≡ Ok l → pruned h tops is_right (level + 1) on_right right ≡ Ok r
+      → pruned h tops is_shown level keys whole ≡ gives (Fork l r)
+  fork-made tops is_shown level [] on_left on_right whole left right l r is_left is_right some is a b c d m n = absurd cc
+  fork-made tops is_shown level (key ∷ keys) on_left on_right whole left right l r is_left is_right some is a b c d m n =
+      let more : suc level ≡ level + 1 = omega arith in
+      let f = done_injective {E = Error} (keys_with false level (key ∷ keys)) on_left a in
+      let t = done_injective {E = Error} (keys_with true level (key ∷ keys)) on_right b in
+      let p = done_injective {E = Error} (is_needed tops on_left (level + 1) on_right right) is_left c in
+      let q = done_injective {E = Error} (is_needed tops on_right (level + 1) on_left left) is_right d in
+      let first : left-pruned tops level (key ∷ keys) left right ≡ Ok l =
+      ap (λ n. pruned h tops (is_needed tops (keys_with false level (key ∷ keys)) n (keys_with true level
+      (key ∷ keys)) right) n (keys_with false level (key ∷ keys)) left) more
+      ∙ ap (λ k. pruned h tops (is_needed tops k (level + 1) (keys_with true level (key ∷ keys)) right) (level + 1) k
+      left) f
+      ∙ ap (λ k. pruned h tops (is_needed tops on_left (level + 1) k right) (level + 1) on_left left) t
+      ∙ ap (λ s. pruned h tops s (level + 1) on_left left) p ∙ m in
+      let second : right-pruned tops level (key ∷ keys) left right ≡ Ok r =
+      ap (λ n. pruned h tops (is_needed tops (keys_with true level (key ∷ keys)) n (keys_with false level
+      (key ∷ keys)) left) n (keys_with true level (key ∷ keys)) right) more
+      ∙ ap (λ k. pruned h tops (is_needed tops k (level + 1) (keys_with false level (key ∷ keys)) left) (level + 1) k
+      right) t
+      ∙ ap (λ k. pruned h tops (is_needed tops on_right (level + 1) k left) (level + 1) on_right right) f
+      ∙ ap (λ s. pruned h tops s (level + 1) on_right right) q ∙ n in
+      ap (pruned h tops is_shown level (key ∷ keys)) is
+      ∙ ap (λ o. o >>= λ l. right-pruned tops level (key ∷ keys) left right >>= λ r. Ok (Fork l r)) first
+      ∙ ap (λ o. o >>= λ r. Ok (Fork l r)) second
+
+  pub prunes : (tops : Bool) (level : ℕ) (is_shown : Bool) (bits : List Bool) (keys : List Key) (s n : Shape)
+      → pruned h tops is_shown level keys s ≡ Ok n
       → IsCopy level bits s n
-  prunes tops level bits [] s n e = asides tops level bits s n e
-  prunes tops level bits (key ∷ keys) Empty n e = same level bits Empty n e
-  prunes tops level bits (key ∷ keys) (One entry) n e = same level bits (One entry) n e
-  prunes tops level bits (key ∷ keys) (Hidden digest) n e = same level bits (Hidden digest) n e
-  prunes tops level bits (key ∷ keys) (Fork left right) n e =
-      let l = bind_ok (pruned h tops (suc level) (keys_with false level (key ∷ keys)) left) _ n e in
-      let r = bind_ok (pruned h tops (suc level) (keys_with true level (key ∷ keys)) right) (λ r. Ok
-      (Fork l.0 r)) n l.2 in
-      moved (IsCopy level bits (Fork left right)) (Fork l.0 r.0) n r.2 (forks level bits left right l.0 r.0
-      (prunes tops (suc level) (false ∷ bits) (keys_with false level (key ∷ keys)) left l.0 l.1)
-      (prunes tops (suc level) (true ∷ bits) (keys_with true level (key ∷ keys)) right r.0 r.1))
+  prunes tops level is_shown bits [] s n e = asides is_shown level bits s n e
+  prunes tops level is_shown bits (key ∷ keys) Empty n e = same level bits Empty n e
+  prunes tops level is_shown bits (key ∷ keys) (One entry) n e = same level bits (One entry) n e
+  prunes tops level is_shown bits (key ∷ keys) (Hidden digest) n e = same level bits (Hidden digest) n e
+  prunes tops level is_shown bits (key ∷ keys) (Fork left right) n e =
+      let made = sides-of tops is_shown level key keys left right n e in
+      moved (IsCopy level bits (Fork left right)) (Fork made.0 made.1) n made.4
+      (forks level bits left right made.0 made.1
+      (prunes tops (suc level) _ (false ∷ bits) (keys_with false level (key ∷ keys)) left made.0 made.2)
+      (prunes tops (suc level) _ (true ∷ bits) (keys_with true level (key ∷ keys)) right made.1 made.3))
 
   -- and has the same at the keys
-  pub prunes-known : (tops : Bool) (level : ℕ) (keys : List Key) (key : Key) (s n : Shape) → IsAmong key keys
-      → pruned h tops level keys s ≡ Ok n → known_at level key n ≡ known_at level key s
-  prunes-known tops level [] key s n among e = absurd among
-  prunes-known tops level (k ∷ keys) key Empty n among e =
+  pub prunes-known : (tops : Bool) (level : ℕ) (is_shown : Bool) (keys : List Key) (key : Key) (s n : Shape) → IsAmong key keys
+      → pruned h tops is_shown level keys s ≡ Ok n → known_at level key n ≡ known_at level key s
+  prunes-known tops level is_shown [] key s n among e = absurd among
+  prunes-known tops level is_shown (k ∷ keys) key Empty n among e =
       ap (known_at level key) (sym (done_injective {E = Error} Empty n e))
-  prunes-known tops level (k ∷ keys) key (One entry) n among e =
+  prunes-known tops level is_shown (k ∷ keys) key (One entry) n among e =
       ap (known_at level key) (sym (done_injective {E = Error} (One entry) n e))
-  prunes-known tops level (k ∷ keys) key (Hidden digest) n among e =
+  prunes-known tops level is_shown (k ∷ keys) key (Hidden digest) n among e =
       ap (known_at level key) (sym (done_injective {E = Error} (Hidden digest) n e))
-  prunes-known tops level (k ∷ keys) key (Fork left right) n among e =
-      let l = bind_ok (pruned h tops (suc level) (keys_with false level (k ∷ keys)) left) _ n e in
-      let r = bind_ok (pruned h tops (suc level) (keys_with true level (k ∷ keys)) right) (λ r. Ok
-      (Fork l.0 r)) n l.2 in
-      ap (known_at level key) (sym (done_injective {E = Error} (Fork l.0 r.0) n r.2))
-      ∙ by_bit l.0 r.0 (λ a. prunes-known tops (suc level) (keys_with false level (k ∷ keys)) key left l.0 a l.1)
-      (λ a. prunes-known tops (suc level) (keys_with true level (k ∷ keys)) key right r.0 a r.1) (bit_of level key) refl
+  prunes-known tops level is_shown (k ∷ keys) key (Fork left right) n among e =
+      let made = sides-of tops is_shown level k keys left right n e in
+      ap (known_at level key) (sym (done_injective {E = Error} (Fork made.0 made.1) n made.4))
+      ∙ by_bit made.0 made.1
+      (λ a. prunes-known tops (suc level) _ (keys_with false level (k ∷ keys)) key left made.0 a made.2)
+      (λ a. prunes-known tops (suc level) _ (keys_with true level (k ∷ keys)) key right made.1 a made.3)
+      (bit_of level key) refl
     where
       by_bit : (m n : Shape)
           → (IsAmong key (keys_with false level (k ∷ keys)) → known_at (suc level) key m ≡ known_at
@@ -148,79 +220,7 @@ module _ (h : MapHashes) where
       by_bit m n on_left on_right false bit =
           on_left (among-filter (λ k. has_bit false level k) key (k ∷ keys) (own_bit false level key bit) among)
 
-  -- ---- and can lose each of the keys
-
-  covers-aside : (s n : Shape) → IsWhole s → aside h true s ≡ Ok n → IsSeen (Ok n)
-  covers-aside Empty n whole e = moved (λ s. IsSeen (Ok s)) Empty n e tt
-  covers-aside (One entry) n whole e = moved (λ s. IsSeen (Ok s)) (One entry) n e tt
-  covers-aside (Hidden digest) n whole e = absurd whole
-  covers-aside (Fork left right) n whole e =
-      let l = bind_ok (covered h left) _ n e in
-      let r = bind_ok (covered h right) (λ r. Ok (Fork l.0 r)) n l.2 in
-      moved (λ s. IsSeen (Ok s)) (Fork l.0 r.0) n r.2 tt
-
-  prunes-seen : (level : ℕ) (keys : List Key) (s n : Shape) → IsWhole s → pruned h true level keys s ≡ Ok n
-      → IsSeen (Ok n)
-  prunes-seen level [] s n whole e = covers-aside s n whole e
-  prunes-seen level (k ∷ keys) Empty n whole e = moved (λ s. IsSeen (Ok s)) Empty n e tt
-  prunes-seen level (k ∷ keys) (One entry) n whole e = moved (λ s. IsSeen (Ok s)) (One entry) n e tt
-  prunes-seen level (k ∷ keys) (Hidden digest) n whole e = absurd whole
-  prunes-seen level (k ∷ keys) (Fork left right) n whole e =
-      let l = bind_ok (pruned h true (suc level) (keys_with false level (k ∷ keys)) left) _ n e in
-      let r = bind_ok (pruned h true (suc level) (keys_with true level (k ∷ keys)) right) (λ r. Ok
-      (Fork l.0 r)) n l.2 in
-      moved (λ s. IsSeen (Ok s)) (Fork l.0 r.0) n r.2 tt
-
-  pub joined-ok : (l r : Shape) → IsSeen (Ok l) → IsSeen (Ok r) → IsOk (rejoined h.nothing l r)
-  joined-ok Empty Empty a b = refl
-  joined-ok Empty (One f) a b = refl
-  joined-ok Empty (Fork x y) a b = refl
-  joined-ok Empty (Hidden d) a b = absurd b
-  joined-ok (One e) Empty a b = refl
-  joined-ok (One e) (One f) a b = refl
-  joined-ok (One e) (Fork x y) a b = refl
-  joined-ok (One e) (Hidden d) a b = absurd b
-  joined-ok (Fork v w) Empty a b = refl
-  joined-ok (Fork v w) (One f) a b = refl
-  joined-ok (Fork v w) (Fork x y) a b = refl
-  joined-ok (Fork v w) (Hidden d) a b = absurd b
-  joined-ok (Hidden d) r a b = absurd a
-
-  ok-right : (l : Shape) (o : Outcome Shape) → IsSeen (Ok l) → IsSeen o → IsOk o → IsOk (o >>= λ r. rejoined h.nothing l r)
-  ok-right l (Ok r) a b ok = joined-ok l r a b
-  ok-right l (Err e) a b ok = ok
-
-  ok-left : (r : Shape) (o : Outcome Shape) → IsSeen (Ok r) → IsSeen o → IsOk o → IsOk (o >>= λ l. rejoined h.nothing l r)
-  ok-left r (Ok l) a b ok = joined-ok l r b a
-  ok-left r (Err e) a b ok = ok
-
-  loses : (level : ℕ) (keys : List Key) (key : Key) (s n : Shape) → IsWhole s → IsAmong key keys
-      → pruned h true level keys s ≡ Ok n → IsOk (losing h.nothing level key n)
-  loses level [] key s n whole among e = absurd among
-  loses level (k ∷ keys) key Empty n whole among e = moved (λ s. IsOk (losing h.nothing level key s)) Empty n e refl
-  loses level (k ∷ keys) key (One entry) n whole among e = moved (λ s. IsOk (losing h.nothing level key s)) (One entry) n e refl
-  loses level (k ∷ keys) key (Hidden digest) n whole among e = absurd whole
-  loses level (k ∷ keys) key (Fork left right) n whole among e =
-      let l = bind_ok (pruned h true (suc level) (keys_with false level (k ∷ keys)) left) _ n e in
-      let r = bind_ok (pruned h true (suc level) (keys_with true level (k ∷ keys)) right) (λ r. Ok
-      (Fork l.0 r)) n l.2 in
-      moved (λ s. IsOk (losing h.nothing level key s)) (Fork l.0 r.0) n r.2
-      (by_bit l.0 r.0 (prunes-seen (suc level) (keys_with false level (k ∷ keys)) left l.0 whole.0 l.1)
-      (prunes-seen (suc level) (keys_with true level (k ∷ keys)) right r.0 whole.1 r.1)
-      (λ a. loses (suc level) (keys_with false level (k ∷ keys)) key left l.0 whole.0 a l.1)
-      (λ a. loses (suc level) (keys_with true level (k ∷ keys)) key right r.0 whole.1 a r.1) (bit_of level key) refl)
-    where
-      by_bit : (m n : Shape) → IsSeen (Ok m) → IsSeen (Ok n)
-          → (IsAmong key (keys_with false level (k ∷ keys)) → IsOk (losing h.nothing (suc level) key m))
-          → (IsAmong key (keys_with true level (k ∷ keys)) → IsOk (losing h.nothing (suc level) key n))
-          → (b : Bool) → bit_of level key ≡ b → IsOk (if b then (losing h.nothing (suc level) key n >>= λ r. rejoined h.nothing m r)
-          else (losing h.nothing (suc level) key m >>= λ l. rejoined h.nothing l n))
-      by_bit m n on_m on_n on_left on_right true bit =
-          ok-right m (losing h.nothing (suc level) key n) on_m (seen-losing h.nothing (suc level) key n)
-          (on_right (among-filter (λ k. has_bit true level k) key (k ∷ keys) (own_bit true level key bit) among))
-      by_bit m n on_m on_n on_left on_right false bit =
-          ok-left n (losing h.nothing (suc level) key m) on_n (seen-losing h.nothing (suc level) key m)
-          (on_left (among-filter (λ k. has_bit false level k) key (k ∷ keys) (own_bit false level key bit) among))
+  -- ---- a tree that hides nothing
 
   pub whole-known : (level : ℕ) (key : Key) (s : Shape) → IsWhole s → IsOk (known_at level key s)
   whole-known level key Empty whole = refl
@@ -233,18 +233,3 @@ module _ (h : MapHashes) where
           → IsOk (if b then known_at (suc level) key right else known_at (suc level) key left)
       by_bit on_left on_right true = on_right
       by_bit on_left on_right false = on_left
-
-  pub can_lose : (keys : List Key) (s n : Shape) → pruned h true 0 keys s ≡ Ok n → IsWhole s → CanLose h.nothing keys n
-  can_lose keys s n e whole key among = by_known (known_at 0 key n)
-      (subst (λ (o : Outcome (Option Digest)). IsOk o) (sym (prunes-known true 0 keys key s n among e)) (whole-known 0
-      key s whole))
-    where
-      by_known : (o : Outcome (Option Digest)) → IsOk o → IsOk (o >>= losing_known h.nothing key n)
-      by_known (Ok None) ok = refl
-      by_known (Ok (Some value)) ok = loses 0 keys key s n whole among e
-      by_known (Err error) ok = ok
-
-  pub can_lose_after : (keys : List Key) (s : Shape) (result : Outcome Shape)
-      → AnswersBy (λ new. new) (pruned h true 0 keys s) result → IfOk result (λ new. IsWhole s → CanLose h.nothing keys new)
-  can_lose_after keys s (Ok new) e = can_lose keys s new e
-  can_lose_after keys s (Err error) e = tt

@@ -11,7 +11,7 @@ use Rattle.merkle_map.specs.Rests.{rest_of, rest_beside, rest_seen}
 use Rattle.merkle_map.specs.declared.remove.Rest.TheVariants.{Nothing as None, Lone, Any, Unknown}
 use Rattle.merkle_map.proofs.Places.{losing-on}
 
-abbrev failed : Error → Outcome Shape
+abbrev pub failed : Error → Outcome Shape
 failed error = Err error
 
 err_injective : (a b : Error) → failed a ≡ failed b → a ≡ b

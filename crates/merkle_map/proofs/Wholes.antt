@@ -24,7 +24,7 @@ plain = record { nothing = []; leaf = λ key value. Ok []; pair = λ left right.
 
 -- ---- bits on a way
 
-heads : (a b : Bool) (xs ys : List Bool) → a ∷ xs ≡ b ∷ ys → (a ≡ b) × (xs ≡ ys)
+pub heads : (a b : Bool) (xs ys : List Bool) → a ∷ xs ≡ b ∷ ys → (a ≡ b) × (xs ≡ ys)
 heads a b xs ys e = (
   ap (λ (l : List Bool). elim l [ [] ↦ a | x ∷ rest ↦ x ]) e,
   ap (λ (l : List Bool). elim l [ [] ↦ xs | x ∷ rest ↦ rest ]) e,
@@ -158,7 +158,7 @@ whole-map bits (Fork l r) stands = maps-append (length bits) (entries_of l) (ent
 
 -- ---- changes leave trees whole
 
-whole-two : (bits level : ℕ) (x y : Entry) → IsWhole (two_of bits level x y)
+pub whole-two : (bits level : ℕ) (x y : Entry) → IsWhole (two_of bits level x y)
 whole-two zero level x y = (tt, tt)
 whole-two (suc bits) level x y = by_bits (whole-two bits (suc level) x y) (bit_of level x.key) (bit_of level y.key)
   where

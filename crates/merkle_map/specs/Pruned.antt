@@ -1,16 +1,21 @@
 -- Trees that hide what some keys do not need.
-use Rattle.std.specs.Prelude.{◌≡◌, ◌⊎◌, ◌<◌, ℕ, suc, Bool, true, false, List, [], ◌∷◌, IsOk, Ok}
-use Rattle.std.specs.List.{filter}
+use Rattle.std.specs.Prelude.{◌≡◌, ◌⊎◌, ◌<◌, ℕ, suc, Bool, true, false, if◌then◌else◌, List, [], ◌∷◌, IsOk, Ok}
+use Rattle.std.specs.List.{filter, list_any}
+use Rattle.std.specs.Str.{bytes_eq}
 use Rattle.ark_base.specs.Outcome.{Outcome, ◌>>=◌}
 use Rattle.merkle_map.specs.Map.{Key, Digest, Entry, MapHashes, has_bit, key_bits}
 use Rattle.merkle_map.specs.Tree.{Shape, Empty, One, Fork, Hidden, shape_digest, Shows}
 use Rattle.merkle_map.specs.Changes.{known_at, tree_without}
+use Rattle.merkle_map.specs.Kept.{changed_key}
+use Rattle.merkle_map.specs.Transition.{ChangeSeen, tree_after_all}
 
--- a fork, hidden; another tree as it is
+-- a fork, hidden unless its digest is that of nothing; another tree as it is
 abbrev pub covered : MapHashes → Shape → Outcome Shape
 covered h Empty = Ok Empty
 covered h (One entry) = Ok (One entry)
-covered h (Fork left right) = shape_digest h (Fork left right) >>= λ digest. Ok (Hidden digest)
+covered h (Fork left right) = shape_digest h (Fork left right) >>= λ digest. if bytes_eq digest h.nothing
+    then (covered h left >>= λ l. covered h right >>= λ r. Ok (Fork l r))
+    else Ok (Hidden digest)
 covered h (Hidden digest) = Ok (Hidden digest)
 
 -- what stands beside the ways of all keys: hidden, or with its top shown
@@ -25,15 +30,36 @@ aside h true (Hidden digest) = Ok (Hidden digest)
 abbrev pub keys_with : Bool → ℕ → List Key → List Key
 keys_with bit level keys = filter (λ key. has_bit bit level key) keys
 
--- a tree some levels below the root, without what no key's way meets; `tops` shows the tops of what is beside the ways
-abbrev pub pruned : MapHashes → Bool → ℕ → List Key → Shape → Outcome Shape
-pruned h tops level [] shape = aside h tops shape
-pruned h tops level (key ∷ keys) Empty = Ok Empty
-pruned h tops level (key ∷ keys) (One entry) = Ok (One entry)
-pruned h tops level (key ∷ keys) (Hidden digest) = Ok (Hidden digest)
-pruned h tops level (key ∷ keys) (Fork left right) =
-    pruned h tops (suc level) (keys_with false level (key ∷ keys)) left >>= λ l.
-    pruned h tops (suc level) (keys_with true level (key ∷ keys)) right >>= λ r. Ok (Fork l r)
+-- whether a list has a key
+abbrev pub has_key : Key → List Key → Bool
+has_key key keys = list_any (λ own. bytes_eq own key) keys
+
+-- whether the keys are those of all entries of a tree some levels below the root, which hides nothing
+abbrev pub clears : ℕ → List Key → Shape → Bool
+clears level keys Empty = true
+clears level keys (One entry) = has_key entry.key keys
+clears level [] (Fork left right) = false
+clears level (key ∷ keys) (Fork left right) = if clears (suc level) (keys_with false level (key ∷ keys)) left
+    then clears (suc level) (keys_with true level (key ∷ keys)) right else false
+clears level keys (Hidden digest) = false
+
+-- whether the top of a side is shown, for removals: it has no key, and the keys clear the other side
+abbrev pub is_needed : Bool → List Key → ℕ → List Key → Shape → Bool
+is_needed tops [] level keys other = if tops then clears level keys other else false
+is_needed tops (key ∷ own) level keys other = false
+
+-- A tree some levels below the root, without what no key's way meets. The top of what has no key is shown as stated;
+-- `tops` shows those below that removals need.
+abbrev pub pruned : MapHashes → Bool → Bool → ℕ → List Key → Shape → Outcome Shape
+pruned h tops is_shown level [] shape = aside h is_shown shape
+pruned h tops is_shown level (key ∷ keys) Empty = Ok Empty
+pruned h tops is_shown level (key ∷ keys) (One entry) = Ok (One entry)
+pruned h tops is_shown level (key ∷ keys) (Hidden digest) = Ok (Hidden digest)
+pruned h tops is_shown level (key ∷ keys) (Fork left right) =
+    let on_left = keys_with false level (key ∷ keys) in
+    let on_right = keys_with true level (key ∷ keys) in
+    pruned h tops (is_needed tops on_left (suc level) on_right right) (suc level) on_left left >>= λ l.
+    pruned h tops (is_needed tops on_right (suc level) on_left left) (suc level) on_right right >>= λ r. Ok (Fork l r)
 
 -- Forks stand above the last bit of a key.
 abbrev pub FitsKeys : ℕ → Shape → Type 0
@@ -58,3 +84,13 @@ ShowsSame h old new = (entries : List Entry) → Shows h 0 old entries → Shows
 -- Each of the keys can be removed from the tree.
 abbrev pub CanLose : Digest → List Key → Shape → Type 0
 CanLose nothing keys shape = (key : Key) → IsAmong key keys → IsOk (tree_without nothing key shape)
+
+-- Each change is of one of the keys.
+abbrev pub AreOf : List Key → List ChangeSeen → Type 0
+AreOf keys [] = Unit {0}
+AreOf keys (change ∷ changes) = IsAmong (changed_key change) keys × AreOf keys changes
+
+-- The tree shows what changes of the keys need, however many, in any order.
+abbrev pub CanChange : Digest → List Key → Shape → Type 0
+CanChange nothing keys shape = (changes : List ChangeSeen) → AreOf keys changes
+    → IsOk (tree_after_all nothing changes shape)

@@ -1,6 +1,6 @@
 //! Trees with a hidden top, of which the digest takes no memory of its own.
 
-ghost use Rattle.std.specs.Prelude.{◌≡◌, ◌++◌, [], map, IfErr, IfOk, OnErr, OnOk};
+ghost use Rattle.std.specs.Prelude.{◌≡◌, ◌++◌, [], false, map, IfErr, IfOk, OnErr, OnOk};
 ghost use Rattle.ark_base.specs.Outcome.{AnswersBy, IsMemory};
 ghost use Rattle.merkle_map.specs.Bytes.{itself, spelled, IsOf32};
 ghost use Rattle.merkle_map.specs.Changes.{known_at, tree_without, with_value};
@@ -111,13 +111,13 @@ pub fn prune_top<D: DigestItem, T: MapHasher<D>>(
 ) -> Result<Top<D>, Error>
     requires fits { FitsKeys 0 (top_shape D.numbers top.now) }
     requires kept { IsTopKept D.numbers (T.hashes hasher.now) top.now }
-    ensures pruned { AnswersBy (top_shape D.numbers) (pruned (T.hashes hasher.now) tops 0 keys.now
-        (top_shape D.numbers top.now)) result }
+    ensures pruned { AnswersBy (top_shape D.numbers) (pruned (T.hashes hasher.now) tops false 0
+        keys.now (top_shape D.numbers top.now)) result }
     ensures digests { IfOk result (λ new. (h : MapHashes) → IsTopKept D.numbers h new) }
 {
     match top {
         Top::Shown { part } => {
-            let part = prune_in(alloc, hasher, tops, part, 0, keys)?;
+            let part = prune_in(alloc, hasher, tops, false, part, 0, keys)?;
             Ok(Top::Shown { part })
         }
         Top::Digest { digest } => {

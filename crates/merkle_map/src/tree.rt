@@ -1,16 +1,16 @@
 //! Trees of maps: a store hides nothing, a proof hides what it does not need.
 
-ghost use Rattle.std.specs.Prelude.{◌≡◌, false, true, List, IfOk, OnOk, OnErr, Ok};
+ghost use Rattle.std.specs.Prelude.{◌≡◌, [], false, true, List, IfOk, OnOk, OnErr, Ok};
 ghost use Rattle.ark_base.specs.Outcome.{Answers, AnswersBy};
 ghost use Rattle.merkle_map.specs.Bytes.{spelled, tree_of_bytes, IsOf32, ReadsBack};
 ghost use Rattle.merkle_map.specs.Changes.{known_at, tree_with_value, tree_without};
 ghost use Rattle.merkle_map.specs.KeyProof.{proof_at, proof_seen, IsKeyProofAccepted};
 ghost use Rattle.merkle_map.specs.Map.{Entry as EntryOf, put, root_of_map, without};
 ghost use Rattle.merkle_map.specs.Parts.{found_seen, value_seen};
-ghost use Rattle.merkle_map.specs.Pruned.{pruned, CanLose, KnowsSame, ShowsSame};
+ghost use Rattle.merkle_map.specs.Pruned.{pruned, CanChange, CanLose, KnowsSame, ShowsSame};
 ghost use Rattle.merkle_map.specs.Rows.{rows_of};
 ghost use Rattle.merkle_map.specs.Shown.{BindsTree, Follows, FollowsBy, Has, has_digest};
-ghost use Rattle.merkle_map.specs.Tree.{shape_digest, Empty, Hidden, IsWhole, Shows};
+ghost use Rattle.merkle_map.specs.Tree.{shape_digest, Empty, Hidden, IsWhole, Shows, StandsAt};
 ghost use Rattle.merkle_map.specs.Whole.{IsRootOf, Stores};
 
 use crate::bytes::part_of_bytes;
@@ -160,7 +160,7 @@ impl<D: DigestItem> MapTree<D> {
         Ok(are_same_digests(&digest, root))
     }
 
-    // Copies the tree without what no key's way meets, or with the tops of that.
+    // Copies the tree without what no key's way meets, or with the tops of that which removals need.
     fn pruned_for<T: MapHasher<D>>(
         &self,
         alloc: Global,
@@ -168,12 +168,13 @@ impl<D: DigestItem> MapTree<D> {
         tops: bool,
         keys: &[[u8; 32]],
     ) -> Result<MapTree<D>, Error>
-        ensures answer { AnswersBy (λ new. new) (pruned (T.hashes hasher.now) tops 0 keys.now
-            self.now) result }
+        ensures answer { AnswersBy (λ new. new) (pruned (T.hashes hasher.now) tops false 0
+            keys.now self.now) result }
         ensures digest { IfOk result (λ new. shape_digest (T.hashes hasher.now) new
             ≡ shape_digest (T.hashes hasher.now) self.now) }
         ensures known { IfOk result (KnowsSame keys.now self.now) }
         ensures maps { IfOk result (ShowsSame (T.hashes hasher.now) self.now) }
+        ensures stands { StandsAt [] self.now }
     {
         let top = prune_top(alloc, hasher, tops, &self.top, keys)?;
         Ok(MapTree { top })
@@ -189,8 +190,8 @@ impl<D: DigestItem> MapTree<D> {
         hasher: &T,
         keys: &[[u8; 32]],
     ) -> Result<MapTree<D>, Error>
-        ensures answer { AnswersBy (λ new. new) (pruned (T.hashes hasher.now) false 0 keys.now
-            self.now) result }
+        ensures answer { AnswersBy (λ new. new) (pruned (T.hashes hasher.now) false false 0
+            keys.now self.now) result }
 
         // The proof has the tree's root, and has the same as the tree at each of the keys.
         ensures digest { IfOk result (λ new. shape_digest (T.hashes hasher.now) new
@@ -201,8 +202,8 @@ impl<D: DigestItem> MapTree<D> {
         self.pruned_for(alloc, hasher, false, keys)
     }
 
-    /// Copies the tree as `prove` does, and shows the tops of what stands beside the ways: the witness of changes. Each of the
-    /// keys can be removed from the witness of a tree that hides nothing.
+    /// Copies the tree as `prove` does, and shows the tops of what stands alone once all keys are removed: the witness of changes.
+    /// From the witness of a tree that hides nothing each of the keys can be removed, and all changes of them can be made.
     ///
     /// Errors: those of the hashes, the lowest first, then the leftmost; `OutOfMemory`.
     pub fn witness<T: MapHasher<D>>(
@@ -211,14 +212,16 @@ impl<D: DigestItem> MapTree<D> {
         hasher: &T,
         keys: &[[u8; 32]],
     ) -> Result<MapTree<D>, Error>
-        ensures answer { AnswersBy (λ new. new) (pruned (T.hashes hasher.now) true 0 keys.now
-            self.now) result }
+        ensures answer { AnswersBy (λ new. new) (pruned (T.hashes hasher.now) true false 0
+            keys.now self.now) result }
         ensures digest { IfOk result (λ new. shape_digest (T.hashes hasher.now) new
             ≡ shape_digest (T.hashes hasher.now) self.now) }
         ensures known { IfOk result (KnowsSame keys.now self.now) }
         ensures maps { IfOk result (ShowsSame (T.hashes hasher.now) self.now) }
         ensures removes { IfOk result (λ new. IsWhole self.now
             → CanLose (T.hashes hasher.now).nothing keys.now new) }
+        ensures changes { IfOk result (λ new. IsWhole self.now
+            → CanChange (T.hashes hasher.now).nothing keys.now new) }
     {
         self.pruned_for(alloc, hasher, true, keys)
     }
