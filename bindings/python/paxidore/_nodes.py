@@ -63,6 +63,20 @@ def _has_bit(key: bytes, level: int) -> bool:
     return bool(key[level >> 3] >> (7 - (level & 7)) & 1)
 
 
+def _hidden(digest: bytes) -> bytes:
+    return _EMPTY if digest == _NOTHING else _HIDDEN + digest
+
+
+def _cleared(met: Dict[bytes, bytes], removed: "frozenset[bytes]") -> "set[bytes]":
+    """Of nodes, each behind the one above it, those below which each key is removed."""
+    gone: "set[bytes]" = set()
+    for digest, node in reversed(list(met.items())):
+        sides = {node[1:33], node[33:]} - {_NOTHING}
+        if node[1:33] in removed if node[0] == 0 else sides <= gone:
+            gone.add(digest)
+    return gone
+
+
 def _is_count(number: object, least: int) -> bool:
     return type(number) is int and least <= number < _MOST
 
@@ -285,32 +299,35 @@ class _Store:
         return node
 
     def tree(self, root: bytes, keys: Sequence[bytes], removed: "frozenset[bytes]") -> Tuple[bytes, Dict[bytes, bytes]]:
-        """The bytes of the tree that shows the ways of keys, and the tops of what is beside those of removed ones; and its nodes."""
-        tree, met = bytearray(), {}
-        parts: List[Tuple[bytes, int, Sequence[bytes], bool]] = [(root, 0, keys, True)]
+        """The bytes of the tree that shows the ways of keys, and the tops of what stands alone once those that are removed are gone; and
+        its nodes."""
+        tree, met = [], {}
+        # what no key's way meets: where it stands in the tree, its digest, and that of the other side
+        asides: List[Tuple[int, bytes, bytes]] = []
+        parts: List[Tuple[bytes, int, Sequence[bytes], Optional[bytes]]] = [(root, 0, keys, None)]
         while parts:
-            digest, level, own, is_shown = parts.pop()
-            if digest == _NOTHING:
-                tree += _EMPTY
-                continue
-            if not is_shown:
-                tree += _HIDDEN + digest
+            digest, level, own, other = parts.pop()
+            if other is not None or digest == _NOTHING:
+                asides += [] if other is None else [(len(tree), digest, other)]
+                tree.append(_hidden(digest))
                 continue
             node = met[digest] = self.node(digest)
             if node[0] == 0:
-                tree += _ENTRY + node[1:]
+                tree.append(_ENTRY + node[1:])
                 continue
             if level == 256:
                 raise DamagedMap("a way of the map has no end")
-            tree += _FORK
+            tree.append(_FORK)
             left = [key for key in own if not _has_bit(key, level)]
             right = [key for key in own if _has_bit(key, level)]
-            # beside the way of a key that is removed the top is shown
-            show_left = bool(left) or not removed.isdisjoint(right)
-            show_right = bool(right) or not removed.isdisjoint(left)
-            parts.append((node[33:], level + 1, right, show_right))
-            parts.append((node[1:33], level + 1, left, show_left))
-        return bytes(tree), met
+            parts.append((node[33:], level + 1, right, None if right else node[1:33]))
+            parts.append((node[1:33], level + 1, left, None if left else node[33:]))
+        gone = _cleared(met, removed)
+        for place, digest, other in asides:
+            if other in gone and digest != _NOTHING:
+                node = met[digest] = self.node(digest)
+                tree[place] = _ENTRY + node[1:] if node[0] == 0 else _FORK + _hidden(node[1:33]) + _hidden(node[33:])
+        return b"".join(tree), met
 
     def put(self, number: int, root: bytes, entries: int, new: Dict[bytes, bytes], old: Dict[bytes, bytes]) -> None:
         """Writes a version: its nodes that it has in the place of old ones. Nothing is written that would be refused when it is read."""

@@ -2,7 +2,7 @@
 
 use crate::{sys, verdict, Digest, Refused};
 #[cfg(feature = "std")]
-use std::collections::HashMap;
+use std::collections::{HashMap, HashSet};
 #[cfg(feature = "std")]
 use std::fmt;
 
@@ -103,6 +103,37 @@ fn digest_in(bytes: &[u8], at: usize) -> Digest {
 #[cfg(feature = "std")]
 fn has_bit(key: &Digest, level: usize) -> bool {
     key[level / 8] >> (7 - level % 8) & 1 == 1
+}
+
+// Of nodes, each behind the one above it, those below which each key is removed.
+#[cfg(feature = "std")]
+fn cleared(nodes: &[(Digest, [u8; NODE])], removed: &[Digest]) -> HashSet<Digest> {
+    let removed: HashSet<&Digest> = removed.iter().collect();
+    let mut gone = HashSet::new();
+    for (digest, node) in nodes.iter().rev() {
+        let (first, second) = (digest_in(node, 1), digest_in(node, 33));
+        let is_gone = match node[0] {
+            0 => removed.contains(&first),
+            _ => [first, second]
+                .iter()
+                .all(|side| *side == NOTHING || gone.contains(side)),
+        };
+        if is_gone {
+            gone.insert(*digest);
+        }
+    }
+    gone
+}
+
+// The part of a tree of which only the digest is shown.
+#[cfg(feature = "std")]
+fn push_hidden(tree: &mut Vec<u8>, digest: &Digest) {
+    if *digest == NOTHING {
+        tree.push(0);
+    } else {
+        tree.push(3);
+        tree.extend_from_slice(digest);
+    }
 }
 
 // A tree's bytes, and the nodes that it shows.
@@ -224,41 +255,55 @@ impl Map {
         entries
     }
 
-    // The tree that shows the ways of keys, and the tops of what is beside those of removed ones, which stand behind the others.
+    // The tree that shows the ways of keys, and the tops of what stands alone once the removed ones, which stand behind the others, are
+    // gone.
     fn shown(&self, keys: &[Digest], removed: usize) -> Shown {
         let mut shown = Shown {
             tree: Vec::new(),
             nodes: Vec::new(),
         };
+        // the parts of the tree in their order, with what of those that no key's way meets stands beside them
+        let mut made: Vec<(Digest, Option<[u8; NODE]>, Option<Digest>)> = Vec::new();
         let all: Vec<usize> = (0..keys.len()).collect();
-        let mut parts = vec![(self.root, 0, all, true)];
-        while let Some((digest, level, own, is_shown)) = parts.pop() {
-            if digest == NOTHING {
-                shown.tree.push(0);
-                continue;
-            }
+        let mut parts = vec![(self.root, 0, all, None)];
+        while let Some((digest, level, own, other)) = parts.pop() {
             let node = match self.nodes.get(&digest) {
-                Some(node) if is_shown => node,
+                Some(node) if other.is_none() => node,
                 _ => {
-                    shown.tree.push(3);
-                    shown.tree.extend_from_slice(&digest);
+                    made.push((digest, None, other));
                     continue;
                 }
             };
             shown.nodes.push((digest, *node));
+            made.push((digest, Some(*node), None));
             if node[0] == 0 {
-                shown.tree.push(1);
-                shown.tree.extend_from_slice(&node[1..]);
                 continue;
             }
-            shown.tree.push(2);
+            let sides = (digest_in(node, 1), digest_in(node, 33));
             let (right, left): (Vec<usize>, Vec<usize>) =
                 own.into_iter().partition(|i| has_bit(&keys[*i], level));
-            let is_removing = |side: &[usize]| side.iter().any(|i| *i >= removed);
-            let show_left = !left.is_empty() || is_removing(&right);
-            let show_right = !right.is_empty() || is_removing(&left);
-            parts.push((digest_in(node, 33), level + 1, right, show_right));
-            parts.push((digest_in(node, 1), level + 1, left, show_left));
+            let (no_left, no_right) = (left.is_empty(), right.is_empty());
+            parts.push((sides.1, level + 1, right, no_right.then_some(sides.0)));
+            parts.push((sides.0, level + 1, left, no_left.then_some(sides.1)));
+        }
+        let gone = cleared(&shown.nodes, &keys[removed..]);
+        for (digest, node, other) in made {
+            let is_alone = other.is_some_and(|other| gone.contains(&other));
+            match node.or_else(|| self.nodes.get(&digest).filter(|_| is_alone).copied()) {
+                Some(node) if node[0] == 0 => {
+                    shown.tree.push(1);
+                    shown.tree.extend_from_slice(&node[1..]);
+                }
+                Some(_) => shown.tree.push(2),
+                None => push_hidden(&mut shown.tree, &digest),
+            }
+            if let (true, Some(node)) = (is_alone, self.nodes.get(&digest)) {
+                shown.nodes.push((digest, *node));
+                if node[0] == 1 {
+                    push_hidden(&mut shown.tree, &digest_in(node, 1));
+                    push_hidden(&mut shown.tree, &digest_in(node, 33));
+                }
+            }
         }
         shown
     }

@@ -7,7 +7,7 @@ use Rattle.ark_base.specs.Outcome.{Outcome, ◌>>=◌, AnswersBy, Answers}
 use Rattle.ark_base.specs.Laws.Steps.{bind_ok, done_injective}
 use Rattle.merkle_map.specs.Map.{Key, Digest, Entry, MapHashes, put, without}
 use Rattle.merkle_map.specs.Tree.{Shape, Empty, One, Fork, Hidden, shape_digest, Shows, IsKey, StandsAt}
-use Rattle.merkle_map.specs.Changes.{with_value, losing, known_at, tree_without, losing_known, hides, outcome_with, has_entry, is_there, Becomes}
+use Rattle.merkle_map.specs.Changes.{with_value, losing, known_at, tree_without, losing_known, hides, has_entry, is_there, Becomes}
 use Rattle.merkle_map.specs.Rests.{rest_of, is_hidden_rest}
 use Rattle.merkle_map.specs.Parts.{found_seen, value_seen}
 use Rattle.merkle_map.specs.Shown.{BindsTree, Follows, FollowsBy, Has, has_digest}
@@ -49,7 +49,8 @@ known_rest (Ok s) e new is = ap Ok is
 known_rest (Err error) e new is = absurd cc
 
 -- an entry that is there is lost
-pub there-losing : (nothing : Digest) (key : Key) (old : Shape) → has_entry key old ≡ Ok true → tree_without nothing key old ≡ losing nothing 0 key old
+pub there-losing : (nothing : Digest) (key : Key) (old : Shape) → has_entry key old ≡ Ok true
+    → tree_without nothing key old ≡ losing nothing 0 key old
 there-losing nothing key old e = by_known (known_at 0 key old) e
   where
     by_known : (o : Outcome (Option Digest)) → (o >>= λ value. Ok (is_there value)) ≡ Ok true
@@ -73,9 +74,11 @@ absent-followed key old e = λ h entries map shown.
     subst (λ es. Shows h 0 old es) (sym (absent-without key entries none)) shown
 
 -- what is hidden decides: the error is that
-pub unknown_losing : (nothing : Digest) (key : Key) (old : Shape) → is_hidden_rest (rest_of (losing nothing 0 key old)) ≡ true
+pub unknown_losing : (nothing : Digest) (key : Key) (old : Shape)
+    → is_hidden_rest (rest_of (losing nothing 0 key old)) ≡ true
     → losing nothing 0 key old ≡ Err hides
-unknown_losing nothing key old e = by_outcome (losing nothing 0 key old) (seen-losing nothing 0 key old) (losing-hides nothing 0 key old) e
+unknown_losing nothing key old e = by_outcome (losing nothing 0 key old) (seen-losing nothing 0 key old)
+    (losing-hides nothing 0 key old) e
   where
     by_outcome : (o : Outcome Shape) → IsSeen o → ((error : Error) → o ≡ Err error → error ≡ hides)
         → is_hidden_rest (rest_of o) ≡ true → o ≡ Err hides

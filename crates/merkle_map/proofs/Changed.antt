@@ -38,7 +38,8 @@ after-all h (x ∷ xs) ys tree = by_first (tree_after h.nothing x tree) (λ s. a
   where
     by_first : (o : Outcome Shape) → ((s : Shape)
         → tree_after_all h.nothing (xs ++ ys) s ≡ (tree_after_all h.nothing xs s >>= tree_after_all h.nothing ys))
-        → (o >>= tree_after_all h.nothing (xs ++ ys)) ≡ ((o >>= tree_after_all h.nothing xs) >>= tree_after_all h.nothing ys)
+        → (o >>= tree_after_all h.nothing (xs ++ ys))
+        ≡ ((o >>= tree_after_all h.nothing xs) >>= tree_after_all h.nothing ys)
     by_first (Ok s) ih = ih s
     by_first (Err e) ih = refl
 
@@ -64,11 +65,14 @@ module _ {A : Type 0} (h : MapHashes) (seen : A → ChangeSeen) (items : List A)
     single (Err e) = refl
 
     next : tree_after_all h.nothing (map seen (take (i + 1) items)) first ≡ tree_after h.nothing (seen item) before
-    next = ap (λ l. tree_after_all h.nothing l first) front ∙ after-all h (map seen (take i items)) (seen item ∷ []) first
-        ∙ ap (λ o. o >>= tree_after_all h.nothing (seen item ∷ [])) so_far.tree ∙ single (tree_after h.nothing (seen item) before)
+    next = ap (λ l. tree_after_all h.nothing l first) front
+        ∙ after-all h (map seen (take i items)) (seen item ∷ []) first
+        ∙ ap (λ o. o >>= tree_after_all h.nothing (seen item ∷ [])) so_far.tree
+        ∙ single (tree_after h.nothing (seen item) before)
 
     -- one change more
-    pub made-next : (new : Shape) → tree_after h.nothing (seen item) before ≡ Ok new → FollowsBy h (changed_by (seen item)) before new
+    pub made-next : (new : Shape) → tree_after h.nothing (seen item) before ≡ Ok new
+        → FollowsBy h (changed_by (seen item)) before new
         → IsMade h first new (map seen (take (i + 1) items))
     made-next new tree_is follows = record {
       tree = next ∙ tree_is;

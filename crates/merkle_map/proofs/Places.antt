@@ -38,7 +38,8 @@ module _ (level : ℕ) {whole left right : Shape} (fork : whole ≡ Fork left ri
 
   -- a key is removed from its side
   pub losing-on : (nothing : Digest) (key : Key) (b : Bool) → bit_of level key ≡ b
-      → losing nothing level key whole ≡ (if b then (losing nothing (level + 1) key right >>= λ r. rejoined nothing left r)
+      → losing nothing level key whole
+      ≡ (if b then (losing nothing (level + 1) key right >>= λ r. rejoined nothing left r)
       else (losing nothing (level + 1) key left >>= λ l. rejoined nothing l right))
   losing-on nothing key b bit = ap (losing nothing level key) fork
       ∙ on_bit level (bit_of level key) b (λ n. losing nothing n key right >>= λ r. rejoined nothing left r)

@@ -1,9 +1,9 @@
 -- What a pruned tree has and shows.
-use Rattle.std.proofs.Common.{suc, ◌≡◌, ℕ, ◌+◌, ◌==◌, Bool, true, false, cond, if◌then◌else◌, Ok, Err, IsOk, IfOk, Option, Some, None, List, [], ◌∷◌, length, arith, refl, ap, sym, ◌∙◌, subst, inl, inr}
+use Rattle.std.proofs.Common.{suc, ◌≡◌, ℕ, ◌+◌, ◌==◌, Bool, true, false, cond, if◌then◌else◌, Ok, IsOk, List, [], ◌∷◌, length, arith, refl, ap, sym, ◌∙◌, subst, inl, inr}
 use Rattle.std.specs.List.{filter}
 use Rattle.std.specs.Str.{bytes_eq}
 use Rattle.ark_base.specs.declared.error.Error.{Error}
-use Rattle.ark_base.specs.Outcome.{Outcome, ◌>>=◌, AnswersBy}
+use Rattle.ark_base.specs.Outcome.{Outcome, ◌>>=◌}
 use Rattle.ark_base.specs.Laws.Steps.{bind_ok, done_injective}
 use Rattle.merkle_map.specs.Map.{Key, Digest, Entry, MapHashes, bit_of, has_bit, side}
 use Rattle.merkle_map.specs.Tree.{Shape, Empty, One, Fork, Hidden, shape_digest, Shows, weight, StandsAt, IsWhole}
@@ -151,13 +151,13 @@ module _ (h : MapHashes) where
       → gives (is_needed tops on_right (level + 1) on_left left) ≡ Ok is_right
       → pruned h tops is_left (level + 1) on_left left ≡ Ok l → pruned h tops is_right (level + 1) on_right right ≡ Ok r
       → pruned h tops is_shown level keys whole ≡ gives (Fork l r)
-  fork-made tops is_shown level [] on_left on_right whole left right l r is_left is_right some is a b c d m n = absurd cc
-  fork-made tops is_shown level (key ∷ keys) on_left on_right whole left right l r is_left is_right some is a b c d m n =
+  fork-made tops is_shown level [] on_left on_right whole left right l r x y some is a b c d m n = absurd cc
+  fork-made tops is_shown level (key ∷ keys) on_left on_right whole left right l r x y some is a b c d m n =
       let more : suc level ≡ level + 1 = omega arith in
       let f = done_injective {E = Error} (keys_with false level (key ∷ keys)) on_left a in
       let t = done_injective {E = Error} (keys_with true level (key ∷ keys)) on_right b in
-      let p = done_injective {E = Error} (is_needed tops on_left (level + 1) on_right right) is_left c in
-      let q = done_injective {E = Error} (is_needed tops on_right (level + 1) on_left left) is_right d in
+      let p = done_injective {E = Error} (is_needed tops on_left (level + 1) on_right right) x c in
+      let q = done_injective {E = Error} (is_needed tops on_right (level + 1) on_left left) y d in
       let first : left-pruned tops level (key ∷ keys) left right ≡ Ok l =
       ap (λ n. pruned h tops (is_needed tops (keys_with false level (key ∷ keys)) n (keys_with true level
       (key ∷ keys)) right) n (keys_with false level (key ∷ keys)) left) more
@@ -191,7 +191,8 @@ module _ (h : MapHashes) where
       (prunes tops (suc level) _ (true ∷ bits) (keys_with true level (key ∷ keys)) right made.1 made.3))
 
   -- and has the same at the keys
-  pub prunes-known : (tops : Bool) (level : ℕ) (is_shown : Bool) (keys : List Key) (key : Key) (s n : Shape) → IsAmong key keys
+  pub prunes-known : (tops : Bool) (level : ℕ) (is_shown : Bool) (keys : List Key) (key : Key) (s n : Shape)
+      → IsAmong key keys
       → pruned h tops is_shown level keys s ≡ Ok n → known_at level key n ≡ known_at level key s
   prunes-known tops level is_shown [] key s n among e = absurd among
   prunes-known tops level is_shown (k ∷ keys) key Empty n among e =

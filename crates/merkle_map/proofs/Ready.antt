@@ -10,7 +10,7 @@ use Rattle.merkle_map.specs.Kept.{changed_key}
 use Rattle.merkle_map.specs.Transition.{ChangeSeen, Puts, Removes, tree_after, tree_after_all}
 use Rattle.merkle_map.proofs.Answered.{gives}
 use Rattle.merkle_map.proofs.Rest.{IsSeen, failed, seen-losing}
-use Rattle.merkle_map.proofs.Wholes.{whole-two}
+use Rattle.merkle_map.proofs.Wholes.{whole-seen, whole-two}
 
 -- a lone entry beside what is hidden and something
 fork-kept : (b : Bool) (s : Shape) → b ≡ false → (if b then failed hides else gives s) ≡ Ok s
@@ -72,12 +72,6 @@ module _ (nothing : Digest) (Own : Key → Type 0) where
   )
 
   -- nor where nothing is hidden
-  whole-seen : (s : Shape) → IsWhole s → IsSeen (Ok s)
-  whole-seen Empty whole = tt
-  whole-seen (One e) whole = tt
-  whole-seen (Fork l r) whole = tt
-  whole-seen (Hidden d) whole = absurd whole
-
   ready-whole : (level : ℕ) (Goes : Key → Type 0) (s : Shape) → IsWhole s → IsReady level Goes s
   ready-whole level Goes Empty whole = tt
   ready-whole level Goes (One e) whole = tt
@@ -263,7 +257,8 @@ module _ (nothing : Digest) (Own : Key → Type 0) where
       (λ on. gets (suc level) (On Goes level false) new on own l ready.0)
       (λ on. gets (suc level) (On Goes level true) new on own r ready.1) (bit_of level new.key) refl
     where
-      by_bit : (On Goes level false new.key → IsChanged (suc level) (On Goes level false) l (with_value (suc level) new l))
+      by_bit : (On Goes level false new.key
+          → IsChanged (suc level) (On Goes level false) l (with_value (suc level) new l))
           → (On Goes level true new.key → IsChanged (suc level) (On Goes level true) r (with_value (suc level) new r))
           → (b : Bool) → bit_of level new.key ≡ b
           → IsChanged level Goes (Fork l r) (if b then (with_value (suc level) new r >>= λ r. Ok (Fork l r))

@@ -87,11 +87,14 @@ seen-losing nothing level key (Fork left right) = by_test (bit_of level key)
   where
     by_test : (b : Bool) → IsSeen (if b then (losing nothing (suc level) key right >>= λ r. rejoined nothing left r)
         else (losing nothing (suc level) key left >>= λ l. rejoined nothing l right))
-    by_test true = seen-on (losing nothing (suc level) key right) (λ r. rejoined nothing left r) (λ r. seen-joined nothing left r)
-    by_test false = seen-on (losing nothing (suc level) key left) (λ l. rejoined nothing l right) (λ l. seen-joined nothing l right)
+    by_test true = seen-on (losing nothing (suc level) key right) (λ r. rejoined nothing left r)
+        (λ r. seen-joined nothing left r)
+    by_test false = seen-on (losing nothing (suc level) key left) (λ l. rejoined nothing l right)
+        (λ l. seen-joined nothing l right)
 
 -- the only error is that something is hidden
-joined-hides : (nothing : Digest) (left right : Shape) (error : Error) → rejoined nothing left right ≡ Err error → error ≡ hides
+joined-hides : (nothing : Digest) (left right : Shape) (error : Error) → rejoined nothing left right ≡ Err error
+    → error ≡ hides
 joined-hides nothing Empty Empty error e = absurd cc
 joined-hides nothing Empty (One f) error e = absurd cc
 joined-hides nothing Empty (Fork a b) error e = absurd cc
@@ -115,7 +118,8 @@ hides-on : (o : Outcome Shape) (next : Shape → Outcome Shape) → ((error : Er
 hides-on (Ok s) next first second error e = second s error e
 hides-on (Err f) next first second error e = first error e
 
-pub losing-hides : (nothing : Digest) (level : ℕ) (key : Key) (shape : Shape) (error : Error) → losing nothing level key shape ≡ Err error
+pub losing-hides : (nothing : Digest) (level : ℕ) (key : Key) (shape : Shape) (error : Error)
+    → losing nothing level key shape ≡ Err error
     → error ≡ hides
 losing-hides nothing level key Empty error e = absurd cc
 losing-hides nothing level key (One entry) error e = absurd cc
@@ -129,9 +133,11 @@ losing-hides nothing level key (Fork left right) error e =
         → (b : Bool) → (if b then (losing nothing (suc level) key right >>= λ r. rejoined nothing left r)
         else (losing nothing (suc level) key left >>= λ l. rejoined nothing l right)) ≡ Err error → error ≡ hides
     by_test on_left on_right true e =
-        hides-on (losing nothing (suc level) key right) (λ r. rejoined nothing left r) on_right (λ r. joined-hides nothing left r) error e
+        hides-on (losing nothing (suc level) key right) (λ r. rejoined nothing left r) on_right
+        (λ r. joined-hides nothing left r) error e
     by_test on_left on_right false e =
-        hides-on (losing nothing (suc level) key left) (λ l. rejoined nothing l right) on_left (λ l. joined-hides nothing l right) error e
+        hides-on (losing nothing (suc level) key left) (λ l. rejoined nothing l right) on_left
+        (λ l. joined-hides nothing l right) error e
 
 beside_left : (nothing : Digest) (left : Shape) (o : Outcome Shape) → IsSeen o
     → rest_of (o >>= λ r. rejoined nothing left r) ≡ rest_beside (rest_of o) (rest_seen nothing left)
@@ -169,7 +175,8 @@ beside_right nothing right (Ok (Hidden d)) seen = absurd seen
 
 -- ---- two sides are joined
 
-pub joined-right : (nothing : Digest) (left right : Shape) → is_alone right left ≡ true → rejoined nothing left right ≡ Ok right
+pub joined-right : (nothing : Digest) (left right : Shape) → is_alone right left ≡ true
+    → rejoined nothing left right ≡ Ok right
 joined-right nothing Empty Empty e = refl
 joined-right nothing Empty (One f) e = refl
 joined-right nothing Empty (Fork a b) e = absurd cc
@@ -187,7 +194,8 @@ joined-right nothing (Hidden d) (One g) e = absurd cc
 joined-right nothing (Hidden d) (Fork a b) e = absurd cc
 joined-right nothing (Hidden d) (Hidden f) e = absurd cc
 
-pub joined-left : (nothing : Digest) (left right : Shape) → is_alone left right ≡ true → rejoined nothing left right ≡ Ok left
+pub joined-left : (nothing : Digest) (left right : Shape) → is_alone left right ≡ true
+    → rejoined nothing left right ≡ Ok left
 joined-left nothing Empty Empty e = refl
 joined-left nothing (One f) Empty e = refl
 joined-left nothing (Fork a b) Empty e = absurd cc
@@ -247,7 +255,8 @@ module _ (nothing : Digest) (level : ℕ) {whole left right : Shape} (fork : who
 
   pub becomes_side : (b : Bool) (between new : Shape) → bit_of level key ≡ b
       → Becomes (losing nothing (level + 1) key (if b then right else left)) between
-      → Becomes (if b then rejoined nothing left between else rejoined nothing between right) new → Becomes (losing nothing level key whole) new
+      → Becomes (if b then rejoined nothing left between else rejoined nothing between right) new
+      → Becomes (losing nothing level key whole) new
   becomes_side true between new bit lost join =
       subst (λ o. Becomes o new) (sym (losing-on level fork nothing key true bit))
       (becomes_on (losing nothing (level + 1) key right) (λ r. rejoined nothing left r) between new lost join)

@@ -167,7 +167,8 @@ higher b bits entry stands =
     (stands.0, rest b bits (bit_of (length bits) entry.key) (way (length bits) entry.key) stands.1)
 
 module _ (bits : List Bool) (inside : length bits < key_bits) where
-  joined-stands : (nothing : Digest) (left right new : Shape) → rejoined nothing left right ≡ Ok new → StandsAt (false ∷ bits) left
+  joined-stands : (nothing : Digest) (left right new : Shape) → rejoined nothing left right ≡ Ok new
+      → StandsAt (false ∷ bits) left
       → StandsAt (true ∷ bits) right → StandsAt bits new
   joined-stands nothing Empty Empty new is l r = subst (StandsAt bits) (done_injective {E = Error} Empty new is) tt
   joined-stands nothing Empty (One e) new is l r =
@@ -200,9 +201,11 @@ module _ (bits : List Bool) (inside : length bits < key_bits) where
       subst (StandsAt bits) (done_injective {E = Error} (Fork (Hidden d) (Fork a b)) new is) (inside, omega arith, l, r)
   joined-stands nothing (Hidden d) (Hidden e) new is l r = absurd cc
 
-pub losing-stands : (nothing : Digest) (bits : List Bool) (level : ℕ) (key : Key) (shape new : Shape) → StandsAt bits shape
+pub losing-stands : (nothing : Digest) (bits : List Bool) (level : ℕ) (key : Key) (shape new : Shape)
+    → StandsAt bits shape
     → losing nothing level key shape ≡ Ok new → StandsAt bits new
-losing-stands nothing bits level key Empty new stands is = subst (StandsAt bits) (done_injective {E = Error} Empty new is) tt
+losing-stands nothing bits level key Empty new stands is = subst (StandsAt bits)
+    (done_injective {E = Error} Empty new is) tt
 losing-stands nothing bits level key (Hidden d) new stands is = absurd cc
 losing-stands nothing bits level key (One entry) new stands is = by_test (bytes_eq entry.key key) is
   where
@@ -214,7 +217,8 @@ losing-stands nothing bits level key (Fork left right) new stands is = by_bit
     (λ after. losing-stands nothing (true ∷ bits) (suc level) key right after stands.3) (bit_of level key) is
   where
     by_bit : ((after : Shape) → losing nothing (suc level) key left ≡ Ok after → StandsAt (false ∷ bits) after)
-        → ((after : Shape) → losing nothing (suc level) key right ≡ Ok after → StandsAt (true ∷ bits) after) → (b : Bool)
+        → ((after : Shape) → losing nothing (suc level) key right ≡ Ok after → StandsAt (true ∷ bits) after)
+        → (b : Bool)
         → (if b then (losing nothing (suc level) key right >>= λ r. rejoined nothing left r)
         else (losing nothing (suc level) key left >>= λ l. rejoined nothing l right)) ≡ Ok new → StandsAt bits new
     by_bit on_left on_right true is =

@@ -66,7 +66,8 @@ module _ (h : MapHashes) (level : ℕ) where
       by_digest e = absurd cc
 
   -- what two sides show, they show together
-  pub joined-shows : (left right new : Shape) (entries : List Entry) → level < key_bits → rejoined h.nothing left right ≡ Ok new
+  pub joined-shows : (left right new : Shape) (entries : List Entry) → level < key_bits
+      → rejoined h.nothing left right ≡ Ok new
       → Shows h (suc level) left (side false level entries) → Shows h (suc level) right (side true level entries)
       → Shows h level new entries
   joined-shows Empty Empty new entries inside is l r =

@@ -194,13 +194,14 @@ module _ (own : Entry) where
       by_bit a b true = (Fork l b.0, ap (λ o. o >>= λ r. Ok (Fork l r)) b.1, (whole.0, b.2))
       by_bit a b false = (Fork a.0 r, ap (λ o. o >>= λ l. Ok (Fork l r)) a.1, (a.2, whole.1))
 
-whole-seen : (s : Shape) → IsWhole s → IsSeen (Ok s)
+pub whole-seen : (s : Shape) → IsWhole s → IsSeen (Ok s)
 whole-seen Empty whole = tt
 whole-seen (One e) whole = tt
 whole-seen (Fork l r) whole = tt
 whole-seen (Hidden d) whole = absurd whole
 
-whole-joined : (nothing : Digest) (l r : Shape) → IsWhole l → IsWhole r → (n : Shape) × (rejoined nothing l r ≡ Ok n) × IsWhole n
+whole-joined : (nothing : Digest) (l r : Shape) → IsWhole l → IsWhole r → (n : Shape) × (rejoined nothing l r ≡ Ok n)
+    × IsWhole n
 whole-joined nothing Empty Empty a b = (Empty, refl, tt)
 whole-joined nothing Empty (One f) a b = (One f, refl, tt)
 whole-joined nothing Empty (Fork x y) a b = (Fork Empty (Fork x y), refl, (tt, b))
@@ -215,7 +216,8 @@ whole-joined nothing (Fork v w) (Fork x y) a b = (Fork (Fork v w) (Fork x y), re
 whole-joined nothing (Fork v w) (Hidden d) a b = absurd b
 whole-joined nothing (Hidden d) r a b = absurd a
 
-losing-whole : (nothing : Digest) (level : ℕ) (key : Key) (s : Shape) → IsWhole s → (n : Shape) × (losing nothing level key s ≡ Ok n) × IsWhole n
+losing-whole : (nothing : Digest) (level : ℕ) (key : Key) (s : Shape) → IsWhole s → (n : Shape)
+    × (losing nothing level key s ≡ Ok n) × IsWhole n
 losing-whole nothing level key Empty whole = (Empty, refl, tt)
 losing-whole nothing level key (Hidden d) whole = absurd whole
 losing-whole nothing level key (One e) whole = by_test (bytes_eq e.key key)
@@ -236,10 +238,12 @@ losing-whole nothing level key (Fork l r) whole =
     by_bit a b false = let j = whole-joined nothing a.0 r a.2 whole.1 in
         (j.0, ap (λ o. o >>= λ l. rejoined nothing l r) a.1 ∙ j.1, j.2)
 
-without-whole : (nothing : Digest) (key : Key) (s : Shape) → IsWhole s → (n : Shape) × (tree_without nothing key s ≡ Ok n) × IsWhole n
+without-whole : (nothing : Digest) (key : Key) (s : Shape) → IsWhole s → (n : Shape)
+    × (tree_without nothing key s ≡ Ok n) × IsWhole n
 without-whole nothing key s whole = by_known (known_at 0 key s) (whole-known plain 0 key s whole)
   where
-    by_known : (o : Outcome (Option Digest)) → IsOk o → (n : Shape) × ((o >>= losing_known nothing key s) ≡ Ok n) × IsWhole n
+    by_known : (o : Outcome (Option Digest)) → IsOk o → (n : Shape) × ((o >>= losing_known nothing key s) ≡ Ok n)
+        × IsWhole n
     by_known (Ok None) ok = (s, refl, whole)
     by_known (Ok (Some value)) ok = losing-whole nothing 0 key s whole
     by_known (Err error) ok = absurd cc
@@ -287,7 +291,8 @@ under h change old new (Err error) follows = tt
 pub put-can : (own : Entry) (old : Shape) → IsWhole old → (n : Shape) × (with_value 0 own old ≡ Ok n) × IsWhole n
 put-can own old whole = with-whole own 0 old whole
 
-pub remove-can : (nothing : Digest) (key : Key) (old : Shape) → IsWhole old → (n : Shape) × (tree_without nothing key old ≡ Ok n) × IsWhole n
+pub remove-can : (nothing : Digest) (key : Key) (old : Shape) → IsWhole old → (n : Shape)
+    × (tree_without nothing key old ≡ Ok n) × IsWhole n
 remove-can nothing key old whole = without-whole nothing key old whole
 
 pub root-of-store : (h : MapHashes) (s : Shape) → StandsAt [] s → IsRootOf h s

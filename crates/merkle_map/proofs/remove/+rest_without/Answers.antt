@@ -19,8 +19,10 @@ returns-then-bit_of g t c =
     let nothing = numbers c.args.nothing.now in
     c.rest_joined.ensures
     ∙ ap (λ r. rest_beside r c.rest_now.result) (c.rest_without.ensures
-    ∙ ap (λ s. rest_of (losing nothing (c.args.level + 1) c.args.key.now (shape numbers s.right))) c.deref-in-Fork.ensures)
-    ∙ ap (rest_beside _) (c.rest_now.ensures ∙ ap (λ s. rest_seen nothing (shape numbers s.left)) c.deref-in-Fork.ensures)
+    ∙ ap (λ s. rest_of (losing nothing (c.args.level + 1) c.args.key.now (shape numbers s.right)))
+    c.deref-in-Fork.ensures)
+    ∙ ap (rest_beside _) (c.rest_now.ensures
+    ∙ ap (λ s. rest_seen nothing (shape numbers s.left)) c.deref-in-Fork.ensures)
     ∙ sym (rest-on nothing c.args.level (ap (shape numbers) c.in-Fork.is) c.args.key.now true
     (sym c.bit_of.ensures ∙ c.if-bit_of.true))
 
@@ -30,7 +32,8 @@ returns-else-bit_of g t c =
     let nothing = numbers c.args.nothing.now in
     c.rest_joined-else-bit_of.ensures
     ∙ ap (λ r. rest_beside r c.rest_now-else-bit_of.result) (c.rest_without-else-bit_of.ensures
-    ∙ ap (λ s. rest_of (losing nothing (c.args.level + 1) c.args.key.now (shape numbers s.left))) c.deref-in-Fork.ensures)
+    ∙ ap (λ s. rest_of (losing nothing (c.args.level + 1) c.args.key.now (shape numbers s.left)))
+    c.deref-in-Fork.ensures)
     ∙ ap (rest_beside _) (c.rest_now-else-bit_of.ensures
     ∙ ap (λ s. rest_seen nothing (shape numbers s.right)) c.deref-in-Fork.ensures)
     ∙ sym (rest-on nothing c.args.level (ap (shape numbers) c.in-Fork.is) c.args.key.now false

@@ -32,7 +32,8 @@ stored g c =
     let old = shape numbers c.self.inside.top in
     let new = shape numbers c.put_in.new.part in
     let stands = c.self.invariant.stands in
-    stores plain (put c.args.key.now (numbers c.args.value)) old new stands (put-stands own (c.told-key, c.fits-key) old new
+    stores plain (put c.args.key.now (numbers c.args.value)) old new stands
+    (put-stands own (c.told-key, c.fits-key) old new
     stands c.put_in.result c.put_in.ensures.changed c.put_in.ensures.kept) (with_value 0 own old) c.put_in.result
     (put-can own old) c.put_in.ensures.changed
     (under plain (put c.args.key.now (numbers c.args.value)) old new c.put_in.result

@@ -25,7 +25,8 @@ pub returns-clause-digest : goal.returns-clause-digest
 returns-clause-digest g c =
     let numbers = g.D.Numbered.numbers in
     let h = g.T.MapHasher.hashes c.args.hasher.now in
-    (prunes h c.args.tops 0 false [] c.args.keys.now (top_shape numbers c.self.inside.top) (top_shape numbers c.in_ok-top.top)
+    (prunes h c.args.tops 0 false [] c.args.keys.now (top_shape numbers c.self.inside.top)
+    (top_shape numbers c.in_ok-top.top)
     c.in_ok-top.ensures.pruned).digest ∙ ap (shape_digest h) c.self.view_is
 
 pub returns-clause-known : goal.returns-clause-known
@@ -40,7 +41,8 @@ pub returns-clause-maps : goal.returns-clause-maps
 returns-clause-maps g c = λ entries shown.
     let numbers = g.D.Numbered.numbers in
     let h = g.T.MapHasher.hashes c.args.hasher.now in
-    (prunes h c.args.tops 0 false [] c.args.keys.now (top_shape numbers c.self.inside.top) (top_shape numbers c.in_ok-top.top)
+    (prunes h c.args.tops 0 false [] c.args.keys.now (top_shape numbers c.self.inside.top)
+    (top_shape numbers c.in_ok-top.top)
     c.in_ok-top.ensures.pruned).shows entries (subst (λ s. Shows h 0 s entries) (sym c.self.view_is) shown)
 
 pub returns-clause-stands : goal.returns-clause-stands
