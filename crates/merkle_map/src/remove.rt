@@ -206,8 +206,8 @@ fn remove_in<D: DigestItem>(part: &mut Part<D>, level: usize, key: &[u8; 32])
     }
 }
 
-// Removes a key from a whole tree. The error, which leaves the tree unchanged: the tree hides what is at the key, or whether an
-// entry is left alone.
+// Removes a key from a whole tree, by the digest of nothing. The error, which leaves the tree unchanged: the tree hides what is
+// at the key, or what is left.
 pub fn remove_from<D: DigestItem>(
     nothing: &D,
     part: &mut Part<D>,

@@ -106,8 +106,8 @@ impl<D: DigestItem> MapTree<D> {
 
     /// Removes a key. A tree that has nothing at the key stays as it is.
     ///
-    /// Errors, which leave the tree unchanged: `HIDDEN`: the tree hides what is at the key, or whether an entry is left alone;
-    /// `OutOfMemory`. A hidden tree beside a last entry hides nothing of that, unless its digest is that of nothing.
+    /// Errors, which leave the tree unchanged: `HIDDEN`: the tree hides what is at the key, what stands alone once the entry is
+    /// gone, or a tree with the digest of nothing beside an entry that is left; `OutOfMemory`.
     pub fn remove<T: MapHasher<D>>(
         &mut self,
         alloc: Global,
@@ -203,7 +203,7 @@ impl<D: DigestItem> MapTree<D> {
     }
 
     /// Copies the tree as `prove` does, and shows the tops of what stands alone once all keys are removed: the witness of changes.
-    /// From the witness of a tree that hides nothing each of the keys can be removed, and all changes of them can be made.
+    /// On the witness of a tree that hides nothing all changes of these keys can be made, in any order.
     ///
     /// Errors: those of the hashes, the lowest first, then the leftmost; `OutOfMemory`.
     pub fn witness<T: MapHasher<D>>(
