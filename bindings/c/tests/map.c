@@ -87,7 +87,13 @@ static const uint8_t *row_of(const uint8_t digest[32]) {
     return NULL;
 }
 
-/* The tree that shows the way of a key, and the tops beside it. */
+/* Whether a digest is that of an entry. */
+static int is_entry(const uint8_t *digest) {
+    const uint8_t *row = row_of(digest);
+    return row != NULL && row[32] == 0;
+}
+
+/* The tree that shows the way of a key, and the top of what stands alone where an entry at its end is removed. */
 static size_t tree_for(uint8_t *tree, const uint8_t digest[32], size_t level, const uint8_t *key, int is_shown) {
     if (memcmp(digest, nothing, 32) == 0) {
         tree[0] = 0;
@@ -108,7 +114,8 @@ static size_t tree_for(uint8_t *tree, const uint8_t digest[32], size_t level, co
     tree[0] = 2;
     for (int side = 0; side < 2; side++) {
         int is_way = key != NULL && bit(key, level) == side;
-        len += tree_for(tree + len, row + 33 + 32 * side, level + 1, is_way ? key : NULL, is_way || key != NULL);
+        int is_alone = key != NULL && is_entry(row + 33 + 32 * !side);
+        len += tree_for(tree + len, row + 33 + 32 * side, level + 1, is_way ? key : NULL, is_way || is_alone);
     }
     return len;
 }

@@ -88,6 +88,14 @@ class Agrees(unittest.TestCase):
                 with self.assertRaises(paxidore.InvalidProof):
                     Map.changed_root(root, changes, witness + b"\0")
 
+    def test_the_witness_of_a_removal_shows_one_top(self):
+        own = Map()
+        own.update({near(number): sha(b"%d" % number) for number in range(60)})
+        for number in range(60):
+            put, removed = own.witness({near(number): sha(b"new")}), own.witness({near(number): None})
+            # nothing, an entry for its digest, or a fork of two sides for its digest
+            self.assertIn(len(removed) - len(put), (0, 2, 32, 34))
+
     def test_a_batch_is_its_threads_own(self):
         own, begun, written = Map(), threading.Event(), threading.Event()
         failures = []

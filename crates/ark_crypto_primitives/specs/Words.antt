@@ -29,7 +29,7 @@ pub use Rattle.ed25519.specs.Signatures.{IsSignature, key_of as ed25519_key, sig
 pub use Rattle.merkle_map.specs.Map.{Entry as MapEntry, HaveSame, IsMap, MapHashes, put as map_put, root_of_map as map_root}
 pub use Rattle.merkle_map.specs.Map.{value_at as map_value, without as map_without}
 pub use Rattle.merkle_map.specs.Kept.{IsShownIn, MapValue}
-pub use Rattle.merkle_map.specs.Shown.{BindsTree, Follows as MapFollows, Has as MapHas}
+pub use Rattle.merkle_map.specs.Shown.{BindsTree, Follows as MapFollows, FollowsBy as MapFollowsBy, Has as MapHas}
 -- what a sponge absorbs, and sponges
 pub use Rattle.ark_absorb.specs.Appending.{AppendsBytes, AppendsElements}
 pub use Rattle.ark_absorb.specs.Elements.{AreShort, Elements, batch_by_item, elements_then, number_element}

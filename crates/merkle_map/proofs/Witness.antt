@@ -7,7 +7,7 @@ use Rattle.ark_base.specs.Laws.Steps.{bind_ok}
 use Rattle.merkle_map.specs.Map.{Key, Digest, MapHashes, bit_of, has_bit}
 use Rattle.merkle_map.specs.Tree.{Shape, Empty, One, Fork, Hidden, IsWhole, shape_digest, way, weight, StandsAt}
 use Rattle.merkle_map.specs.Changes.{tree_without}
-use Rattle.merkle_map.specs.Pruned.{aside, clears, covered, has_key, is_needed, keys_with, pruned, AreOf, CanChange, CanLose, IsAmong}
+use Rattle.merkle_map.specs.Pruned.{aside, clears, covered, has_key, is_needed, keys_with, pruned, AreAmong, CanChange, CanLose, IsAmong}
 use Rattle.merkle_map.specs.Transition.{ChangeSeen, Removes, tree_after_all}
 use Rattle.merkle_map.proofs.Answered.{gives}
 use Rattle.merkle_map.proofs.Entries.{own_bit}
@@ -214,7 +214,7 @@ module _ (h : MapHashes) (Own : Key → Type 0) where
       )
 
 module _ (h : MapHashes) (keys : List Key) (s : Shape) (stands : StandsAt [] s) where
-  own : (changes : List ChangeSeen) → AreOf keys changes → AreOwn h.nothing (λ key. IsAmong key keys) changes
+  own : (changes : List ChangeSeen) → AreAmong keys changes → AreOwn h.nothing (λ key. IsAmong key keys) changes
   own [] are = tt
   own (change ∷ changes) are = (are.0, own changes are.1)
 

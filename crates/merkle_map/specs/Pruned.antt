@@ -86,11 +86,11 @@ abbrev pub CanLose : Digest → List Key → Shape → Type 0
 CanLose nothing keys shape = (key : Key) → IsAmong key keys → IsOk (tree_without nothing key shape)
 
 -- Each change is of one of the keys.
-abbrev pub AreOf : List Key → List ChangeSeen → Type 0
-AreOf keys [] = Unit {0}
-AreOf keys (change ∷ changes) = IsAmong (changed_key change) keys × AreOf keys changes
+abbrev pub AreAmong : List Key → List ChangeSeen → Type 0
+AreAmong keys [] = Unit {0}
+AreAmong keys (change ∷ changes) = IsAmong (changed_key change) keys × AreAmong keys changes
 
 -- The tree shows what changes of the keys need, however many, in any order.
 abbrev pub CanChange : Digest → List Key → Shape → Type 0
-CanChange nothing keys shape = (changes : List ChangeSeen) → AreOf keys changes
+CanChange nothing keys shape = (changes : List ChangeSeen) → AreAmong keys changes
     → IsOk (tree_after_all nothing changes shape)

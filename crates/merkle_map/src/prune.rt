@@ -116,8 +116,8 @@ fn hidden_copy<D: DigestItem>(alloc: Global, digest: &D) -> Result<Part<D>, Erro
     behind(alloc, copy)
 }
 
-// Hides a tree that forks, unless its digest is that of nothing, and copies another. Errors: those of the hashes, the lowest first, then the leftmost;
-// `OutOfMemory`.
+// Hides a tree that forks, unless its digest is that of nothing, and copies another. Errors: those of the hashes, the lowest
+// first, then the leftmost; `OutOfMemory`.
 fn cover<D: DigestItem, T: MapHasher<D>>(
     alloc: Global,
     hasher: &T,
