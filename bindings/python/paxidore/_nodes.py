@@ -8,7 +8,7 @@ import sqlite3
 import stat
 import time
 import weakref
-from typing import Any, Callable, Dict, List, Optional, Sequence, Tuple, TypeVar, Union
+from typing import Any, Callable, Dict, List, Optional, Sequence, Set, Tuple, TypeVar, Union
 
 from ._library import DIGEST_BYTES, _bytes, _call, _refusal, _size
 
@@ -67,9 +67,9 @@ def _hidden(digest: bytes) -> bytes:
     return _EMPTY if digest == _NOTHING else _HIDDEN + digest
 
 
-def _cleared(met: Dict[bytes, bytes], removed: "frozenset[bytes]") -> "set[bytes]":
+def _cleared(met: Dict[bytes, bytes], removed: "frozenset[bytes]") -> Set[bytes]:
     """Of nodes, each behind the one above it, those below which each key is removed."""
-    gone: "set[bytes]" = set()
+    gone: Set[bytes] = set()
     for digest, node in reversed(list(met.items())):
         sides = {node[1:33], node[33:]} - {_NOTHING}
         if node[1:33] in removed if node[0] == 0 else sides <= gone:
@@ -301,14 +301,16 @@ class _Store:
     def tree(self, root: bytes, keys: Sequence[bytes], removed: "frozenset[bytes]") -> Tuple[bytes, Dict[bytes, bytes]]:
         """The bytes of the tree that shows the ways of keys, and the tops of what stands alone once those that are removed are gone; and
         its nodes."""
-        tree, met = [], {}
+        tree: List[bytes] = []
+        met: Dict[bytes, bytes] = {}
         # what no key's way meets: where it stands in the tree, its digest, and that of the other side
         asides: List[Tuple[int, bytes, bytes]] = []
         parts: List[Tuple[bytes, int, Sequence[bytes], Optional[bytes]]] = [(root, 0, keys, None)]
         while parts:
             digest, level, own, other = parts.pop()
+            if other is not None:
+                asides.append((len(tree), digest, other))
             if other is not None or digest == _NOTHING:
-                asides += [] if other is None else [(len(tree), digest, other)]
                 tree.append(_hidden(digest))
                 continue
             node = met[digest] = self.node(digest)
