@@ -4,13 +4,13 @@ use Rattle.std.specs.Str.{bytes_eq}
 use Rattle.ark_base.specs.Outcome.{Outcome, ◌>>=◌}
 use Rattle.ark_base.specs.declared.error.Error.{Error}
 use Rattle.ark_base.specs.declared.error.Error.TheVariants.{GenericError}
-use Rattle.ark_base.specs.declared.error.Refusal.TheVariants.{Custom}
+use Rattle.ark_base.specs.declared.error.Refusal.TheVariants.{HiddenTree}
 use Rattle.merkle_map.specs.Map.{Key, Digest, Entry, bit_of, key_bits}
 use Rattle.merkle_map.specs.Tree.{Shape, Empty, One, Fork, Hidden}
 
 -- the error of a call that needs what a tree hides
 abbrev pub hides : Error
-hides = GenericError (Custom 1)
+hides = GenericError HiddenTree
 
 -- a key with its value
 abbrev pub entry_of : Key → Digest → Entry

@@ -44,8 +44,8 @@ pub struct Sides<D> {
     pub digest: Option<D>,
 }
 
-/// The error of a call that needs what a tree hides. A hash of one's own refuses by another number.
-pub const HIDDEN: Error = Error::GenericError(Refusal::Custom(1));
+/// The error of a call that needs what a tree hides.
+pub const HIDDEN: Error = Error::GenericError(Refusal::HiddenTree);
 
 // Returns it.
 pub fn hidden() -> Error
