@@ -5,6 +5,7 @@ import hashlib
 import os
 import shutil
 import subprocess
+import time
 
 from paxlog_model import PROGRAM, ask, check, read, root, sha, write
 
@@ -213,6 +214,59 @@ def locks_folders(room, verifier):
         started = [subprocess.Popen([PROGRAM, "tiles", log, site, "--key", key], stdout=subprocess.DEVNULL, stderr=subprocess.DEVNULL) for _ in range(4)]
         check("writers at once", all(ran.wait() in (0, 4) for ran in started) and ask("audit", site, verifier) == audited(3, 0))
     shutil.rmtree(site), os.remove(log)
+
+
+def is_soon(holds):
+    """Waits until something holds, for some seconds at most."""
+    for _ in range(1000):
+        if holds():
+            return True
+        time.sleep(0.01)
+    return False
+
+
+def lines_between(room, first, end):
+    write(room + "/lines", b"".join(b"line %d\n" % number for number in range(first, end)))
+    return room + "/lines"
+
+
+def works_while_others_append(room, verifier):
+    """Tiles are written while another process appends, and what it appended is signed with its tiles or not at all."""
+    log, longer, site, key = room + "/growing", room + "/longer", room + "/growing-site", room + "/key"
+    words = [PROGRAM, "tiles", log, site, "--key", key]
+    piped = {"stdout": subprocess.PIPE, "stderr": subprocess.PIPE}
+    ask("append-lines", log, lines_between(room, 0, 600))
+    for size, more in ((600, 900), (900, 900), (900, 3000)):
+        shutil.copyfile(log, longer)
+        if more > size:
+            ask("append-lines", longer, lines_between(room, size, more))
+        with open(log, "r+b") as file:
+            # another process appends
+            fcntl.flock(file, fcntl.LOCK_EX)
+            note = read(site + "/checkpoint") if os.path.exists(site + "/checkpoint") else None
+            os.makedirs(site, exist_ok=True)
+            for name in ("tile/0/000", "tile/0/%03d.p/%d" % (size // 256, size % 256), "tile/1/000.p/%d" % (size // 256)):
+                if os.path.exists(site + "/" + name):
+                    os.remove(site + "/" + name)
+            ran = subprocess.Popen(words, **piped)
+            check("tiles are written meanwhile", is_soon(lambda: os.path.exists(site + "/tile/1/000.p/%d" % (size // 256))))
+            time.sleep(0.1)
+            check("and nothing is signed", ran.poll() is None and (read(site + "/checkpoint") if note else None) == note)
+            whole = read(longer)
+            file.seek(96), file.write(whole[96:]), file.flush()
+            file.seek(0), file.write(whole[:96])
+        check("then what was appended is signed", (*ran.communicate(), ran.returncode) == (said_of(more).encode(), b"", 0))
+        check("with all its tiles", ask("audit", site, verifier) == audited(more, 0))
+    if shutil.which("strace"):
+        # its first file gets its name late
+        slow = ["strace", "-f", "-o", "/dev/null", "-e", "trace=rename", "-e", "inject=rename:delay_enter=1000000:when=1"]
+        ask("append-lines", log, lines_between(room, 3000, 3300))
+        ran = subprocess.Popen([*slow, *words], **piped)
+        check("a tile is written", is_soon(lambda: os.path.exists(site + "/tile/0/011.new")))
+        check("entries are appended meanwhile", ask("append-lines", log, lines_between(room, 3300, 3700)) == (0, "3700\n", ""))
+        check("all are signed", (*ran.communicate(), ran.returncode) == (said_of(3700).encode(), b"", 0))
+        check("with their tiles", ask("audit", site, verifier) == audited(3700, 0))
+    shutil.rmtree(site), os.remove(log), os.remove(longer)
 
 
 def needs_a_state(room, verifier, notes):

@@ -342,6 +342,7 @@ def serves_tiles(room, notes):
     paxlog_folders.names_are_there(room, verifier)
     paxlog_folders.reads_regular_files(room, verifier)
     paxlog_folders.locks_folders(room, verifier)
+    paxlog_folders.works_while_others_append(room, verifier)
     paxlog_folders.needs_a_state(room, verifier, notes)
     paxlog_folders.is_on_the_disk(room, verifier)
     rows = Rows()

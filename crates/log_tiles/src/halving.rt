@@ -9,14 +9,17 @@ use crate::tile::FULL;
 use ark_crh::ArrayHash;
 use ark_trees::LogHasher;
 
-// Puts the hashes of the first pairs, so many, to the front.
+// Puts the hashes of the first pairs, so many, to the front. They are hashed together.
 fn halve(digests: &mut [[u8; 32]; FULL], count: usize)
     requires { count ≤ 128 }
     ensures { take count digests.new ≡ complete_pairs node_hash (take (2 * count) digests.old) }
 {
+    let below = *digests;
+    let mut couples = [(&below[0], &below[0]); FULL / 2];
     'pairs: for pair in 0..count {
-        digests[pair] = LogHasher::node(&digests[2 * pair], &digests[2 * pair + 1]);
+        couples[pair] = (&below[2 * pair], &below[2 * pair + 1]);
     }
+    LogHasher::nodes(&couples[..count], &mut digests[..count]);
 }
 
 /// Returns the root of the first 2^height digests, of which the buffer keeps none.

@@ -2,6 +2,7 @@
 //! read of tiles by whoever follows it.
 #![tactic(auto)]
 
+mod ahead;
 mod bundles;
 mod following;
 mod growth;

@@ -4,11 +4,13 @@ ghost use Rattle.std.specs.Prelude.{◌≡◌, ◌≢◌, ◌≤◌, ◌<◌, �
 ghost use Rattle.log_tiles.specs.Tiles.{rows_in, tile_in, width_in, IsTileOf, IsUntiled};
 ghost use Rattle.merkle_log.specs.Walk.{index_up};
 ghost use Rattle.log_file.specs.LogFile.{file_end};
+ghost use Rattle.log_store.specs.Sound.{IsAhead};
 
+use crate::ahead::{Ahead, digest_ahead, look_at, none_ahead};
 use crate::growth::row_length;
 use log_file::fault::Fault;
-use log_store::{Disk, Stop, read_digest};
-use merkle_log::kept::position_of;
+use log_store::{Disk, Stop};
+use merkle_log::kept::{position_of, stored_count};
 
 /// How many digests a full tile has.
 pub const FULL: usize = 256;
@@ -39,8 +41,9 @@ pub fn width_of(size: usize, level: usize, index: usize) -> usize
     FULL.min(count - (index * FULL).min(count))
 }
 
-// Reads the digest of a complete place of a log of this size, which has digests behind the head.
+// Reads the digest of a complete place of a log of this size, which has digests behind the head, unless it was read ahead.
 fn read_place<D: Disk>(
+    ahead: &mut Ahead,
     disk: &D,
     size: usize,
     level: usize,
@@ -49,11 +52,18 @@ fn read_place<D: Disk>(
     requires inside { place < index_up level size }
     requires fits { size < 2 ^ 63 }
     requires near { file_end size < 2 ^ 64 }
-    ensures { D.Obeys disk.now → file_end size ≤ length (D.seen disk.now) → IfOk result
+    requires window { ahead.old.count ≤ 512 }
+    ensures window { IfOk result (λ digest. ahead.new.count ≤ 512) }
+    ensures ahead { D.Obeys disk.now → file_end size ≤ length (D.seen disk.now)
+        → IsAhead ahead.old.start ahead.old.count ahead.old.bytes (D.seen disk.now) → IfOk result
+        (λ digest. IsAhead ahead.new.start ahead.new.count ahead.new.bytes (D.seen disk.now)) }
+    ensures digest { D.Obeys disk.now → file_end size ≤ length (D.seen disk.now)
+        → IsAhead ahead.old.start ahead.old.count ahead.old.bytes (D.seen disk.now) → IfOk result
         (λ digest. digest ≡ get_or (rows_in size (D.seen disk.now) level) place []) }
 {
-    let digest = read_digest(disk, position_of(level, place))?;
-    Ok(digest)
+    let position = position_of(level, place);
+    look_at(ahead, disk, position, stored_count(size))?;
+    Ok(digest_ahead(ahead, position))
 }
 
 // Writes a digest to a place.
@@ -77,8 +87,15 @@ fn read_places<D: Disk>(
     ensures { D.Obeys disk.now → file_end size ≤ length (D.seen disk.now) → OnOk result
         (take tile.width into.new ≡ tile_in (rows_in size (D.seen disk.now)) tile) }
 {
+    let mut ahead = none_ahead();
     'places: for place in 0..tile.width {
-        let digest = read_place(disk, size, 8 * tile.level, FULL * tile.index + place)?;
+        let digest = read_place(
+            &mut ahead,
+            disk,
+            size,
+            8 * tile.level,
+            FULL * tile.index + place,
+        )?;
         put(into, place, digest);
     }
     Ok(())

@@ -1,6 +1,6 @@
 //! Logs that are written to folders of tiles, and the checkpoints above them.
 
-ghost use Rattle.std.specs.Prelude.{◌≡◌, ◌≤◌, ◌<◌, ◌^◌};
+ghost use Rattle.std.specs.Prelude.{◌≡◌, ◌≤◌, ◌<◌, ◌^◌, IfOk};
 ghost use Rattle.log_file.specs.LogFile.{file_end};
 
 use crate::checkpoints::{note_of, signed_by};
@@ -9,14 +9,14 @@ use crate::folders::{TileFault, path_of_tile};
 use crate::followers::{checkpoint_name, log_in_folder, nothing, stated_by_note};
 use crate::reading::{file_bytes, is_there};
 use crate::stop::{Stop, StopAt, placed};
-use crate::store::{folder_of, root_of_first, sync_folder_of, to_be_signed};
+use crate::store::{folder_of, opened_to_sign, root_of_first, signed_when_free, sync_folder_of};
 use crate::words::Name;
 use crate::writing::{locked_folder, sync_above, sync_way, write_whole};
 use log_file::fault::Fault;
 use log_tiles::{
     FULL, Head, Tile, Unfollowed, continues, new_tiles, read_tile, row_length, width_of,
 };
-use std::alloc::Global;
+use signed_notes::Signer;
 use std::fs;
 
 /// How many levels of tiles the largest log has.
@@ -24,6 +24,15 @@ const LEVELS: usize = 8;
 
 /// How many full tiles lie in one folder.
 const IN_FOLDER: usize = 1000;
+
+/// How often tiles are written at most while others may append.
+const ROUNDS: usize = 16;
+
+/// How many entries are few, so that nobody appends while their tiles are written.
+const FEW: usize = 1024;
+
+/// For how many seconds a signature is put off at most while another process appends.
+const PATIENCE: u64 = 10;
 
 // The name of a tile below a folder.
 fn tile_path(rt: &HostRuntime, folder: &str, tile: Tile) -> Result<String, Stop> {
@@ -33,16 +42,7 @@ fn tile_path(rt: &HostRuntime, folder: &str, tile: Tile) -> Result<String, Stop>
     }
 }
 
-// The bytes of digests, one behind the other.
-fn bytes_of_digests(alloc: Global, digests: &[[u8; 32]]) -> Result<Vec<u8>, Stop> {
-    let mut bytes = Vec::new(alloc);
-    for digest in digests {
-        bytes.extend_from_slice(digest)?;
-    }
-    Ok(bytes)
-}
-
-// Writes a tile of a log of this size to a file.
+// Writes a tile of a log of this size to a file, whose folder is there.
 fn write_tile(
     rt: &HostRuntime,
     disk: &FileDisk,
@@ -58,17 +58,11 @@ fn write_tile(
         Ok(()) => (),
         Err(stop) => return Err(Stop::from(stop)),
     }
-    fs::create_dir_all(rt, folder_of(path))?;
-    write_whole(
-        rt,
-        path,
-        &bytes_of_digests(rt.alloc(), &digests[..tile.width.min(FULL)])?,
-    )
+    write_whole(rt, path, digests[..tile.width.min(FULL)].as_flattened())
 }
 
-// Returns the tiles of a level to be written for a log of this size: those that a log of the old size has too and the folder lacks, and
-// then those that it has not. Of the former the length alone is looked at.
-fn tiles_to_write(
+// Returns the tiles of a level that logs of the old size and of this one have, and the folder lacks. The length alone is looked at.
+fn missing_tiles(
     rt: &HostRuntime,
     old_size: usize,
     size: usize,
@@ -76,8 +70,8 @@ fn tiles_to_write(
     folder: &str,
 ) -> Result<Vec<Tile>, Stop>
     requires level { level < 8 }
-    requires grown { old_size ≤ size }
     requires fits { size < 2 ^ 63 }
+    requires old_fits { old_size < 2 ^ 63 }
 {
     let mut tiles = Vec::new(rt.alloc());
     for index in 0..row_length(level, old_size) / FULL + 1 {
@@ -94,19 +88,22 @@ fn tiles_to_write(
             }
         }
     }
-    for tile in new_tiles(rt.alloc(), old_size, size, level)? {
-        tiles.push(tile)?;
-    }
     Ok(tiles)
 }
 
-// Returns once the names in the folders of the tiles of a level are on the disk, and those of these folders.
-fn sync_level(rt: &HostRuntime, size: usize, level: usize, folder: &str) -> Result<(), Stop>
+// Returns once the names in the folders of the tiles of a level from one on are on the disk, and those of these folders.
+fn sync_level(
+    rt: &HostRuntime,
+    size: usize,
+    level: usize,
+    first: usize,
+    folder: &str,
+) -> Result<(), Stop>
     requires level { level < 8 }
     requires fits { size < 2 ^ 63 }
 {
     let last = row_length(level, size) / FULL;
-    for group in 0..last / IN_FOLDER + 1 {
+    for group in first / IN_FOLDER..last / IN_FOLDER + 1 {
         let index = group.saturating_mul(IN_FOLDER);
         if width_of(size, level, index) != 0 {
             let tile = Tile {
@@ -129,14 +126,38 @@ fn sync_level(rt: &HostRuntime, size: usize, level: usize, folder: &str) -> Resu
     Ok(())
 }
 
-// Writes to a folder the tiles of a log of this size that a log of the old size has not, and those that the folder lacks. Returns them
-// once they are on the disk.
+// Writes tiles of the log of a disk to a folder.
+fn write_all(
+    rt: &HostRuntime,
+    disk: &FileDisk,
+    size: usize,
+    tiles: &[Tile],
+    folder: &str,
+) -> Result<(), Stop>
+    requires fits { size < 2 ^ 63 }
+    requires near { file_end size < 2 ^ 64 }
+{
+    let mut last = format!(in rt.alloc(); "")?;
+    for tile in tiles {
+        let path = tile_path(rt, folder, *tile)?;
+        if folder_of(path.as_str()) != folder_of(last.as_str()) {
+            fs::create_dir_all(rt, folder_of(path.as_str()))?;
+        }
+        write_tile(rt, disk, size, *tile, path.as_str())?;
+        last = path;
+    }
+    Ok(())
+}
+
+// Writes to a folder the tiles of a log of this size that a log of the old size has not, and those that the folder lacks, unless it is
+// known to lack none of the old ones. Returns them once they are on the disk.
 fn write_tiles(
     rt: &HostRuntime,
     disk: &FileDisk,
     old_size: usize,
     size: usize,
     folder: &str,
+    lacks_none: bool,
 ) -> Result<Vec<Tile>, Stop>
     requires grown { old_size ≤ size }
     requires fits { size < 2 ^ 63 }
@@ -144,12 +165,24 @@ fn write_tiles(
 {
     let mut written = Vec::new(rt.alloc());
     for level in 0..LEVELS {
-        for tile in tiles_to_write(rt, old_size, size, level, folder)? {
-            let path = tile_path(rt, folder, tile)?;
-            write_tile(rt, disk, size, tile, path.as_str())?;
+        let mut first = row_length(level, old_size) / FULL;
+        if !lacks_none {
+            let missing = missing_tiles(rt, old_size, size, level, folder)?;
+            write_all(rt, disk, size, &missing, folder)?;
+            for tile in missing {
+                written.push(tile)?;
+            }
+            // whoever wrote the others may have ended before their names were on the disk
+            first = 0;
+        }
+        let new = new_tiles(rt.alloc(), old_size, size, level)?;
+        write_all(rt, disk, size, &new, folder)?;
+        if !lacks_none || !new.is_empty() {
+            sync_level(rt, size, level, first, folder)?;
+        }
+        for tile in new {
             written.push(tile)?;
         }
-        sync_level(rt, size, level, folder)?;
     }
     Ok(written)
 }
@@ -189,8 +222,73 @@ fn continues_old(rt: &HostRuntime, disk: &FileDisk, old: &Head) -> Result<(), St
     Ok(())
 }
 
+// Returns the size and the root of the log of a disk.
+fn head_of(disk: &FileDisk) -> Result<Head, Stop>
+    ensures fits { IfOk result (λ head. head.size < 2 ^ 63) }
+    ensures near { IfOk result (λ head. file_end head.size < 2 ^ 64) }
+{
+    match log_store::root(disk, None) {
+        Ok((size, root)) => Ok(Head { size, root }),
+        Err(stop) => Err(Stop::from(stop)),
+    }
+}
+
+// Writes to a folder the tiles of the log of a disk, which continues the old one. Returns its head once they are on the disk and lead to
+// its root.
+fn write_on(
+    rt: &HostRuntime,
+    disk: &FileDisk,
+    old: &Head,
+    lacks_none: bool,
+    log: Name,
+    folder: Name,
+) -> Result<Head, StopAt> {
+    let head = placed(log.place, head_of(disk))?;
+    if old.size > head.size {
+        return Err(Stop::Shrunk.at(log.place));
+    }
+    placed(log.place, continues_old(rt, disk, old))?;
+    let written = write_tiles(rt, disk, old.size, head.size, folder.text, lacks_none);
+    let written = placed(folder.place, written)?;
+    if !placed(folder.place, lead_to_root(rt, folder.text, &head, &written))? {
+        return Err(Stop::Fault(Fault::Damaged).at(log.place));
+    }
+    Ok(head)
+}
+
+// Writes to a folder the tiles of the log of a file while others may append to it: what a size has below it stays as it is. Each time
+// what was appended meanwhile is written, until that is little. Returns the head whose tiles are all there.
+fn write_meanwhile(rt: &HostRuntime, old: Head, log: Name, folder: Name) -> Result<Head, StopAt> {
+    let mut head = old;
+    for round in 0..ROUNDS {
+        let disk = placed(log.place, opened_to_sign(rt, log.text))?;
+        let new = write_on(rt, &disk, &head, round > 0, log, folder)?;
+        let count = new.size.saturating_sub(head.size);
+        head = new;
+        if count <= FEW {
+            return Ok(head);
+        }
+    }
+    Ok(head)
+}
+
+// Signs the log of a file, to which nobody appends meanwhile. What was appended behind the tiles that are there is written before.
+fn sign_all(
+    rt: &HostRuntime,
+    written: &Head,
+    signer: &Signer,
+    origin: Option<&str>,
+    log: Name,
+    folder: Name,
+) -> Result<(Head, Vec<u8>), StopAt> {
+    let mut disk = placed(log.place, signed_when_free(rt, log.text, PATIENCE))?;
+    let head = write_on(rt, &disk, written, true, log, folder)?;
+    let note = placed(log.place, note_of(rt, &mut disk, signer, origin))?;
+    Ok((head, note))
+}
+
 /// Writes the tiles of the log of a file to a folder, those that it lacks, and then its signed checkpoint. Returns what that
-/// states.
+/// states. Others may append to the log meanwhile, but for the signature.
 ///
 /// The folder's checkpoint, if it has one, is one of the same log and key. A kill at any moment leaves it, or the new one with all
 /// its tiles. Nothing is signed unless what was written leads to the root.
@@ -203,11 +301,9 @@ pub fn publish(
 ) -> Result<Head, StopAt> {
     let text = file_bytes(rt, key_file)?;
     let signer = placed(key_file.place, signed_by(rt.alloc(), &text))?;
-    let mut disk = placed(log.place, to_be_signed(rt, log.text))?;
-    let (size, root) = match log_store::root(&disk, None) {
-        Ok(root) => root,
-        Err(why) => return Err(Stop::from(why).at(log.place)),
-    };
+    // a file that is no log is told before the folder is made
+    let disk = placed(log.place, opened_to_sign(rt, log.text))?;
+    placed(log.place, head_of(&disk))?;
     if let Err(error) = fs::create_dir_all(rt, folder.text) {
         return Err(Stop::from(error).at(folder.place));
     }
@@ -216,17 +312,8 @@ pub fn publish(
     let checkpoint = checkpoint_name(rt, folder.text)?;
     let stated = stated_by_note(rt, &signer.verifier(), checkpoint.as_str(), origin);
     let old = placed(folder.place, stated)?;
-    if old.size > size {
-        return Err(Stop::Shrunk.at(log.place));
-    }
-    placed(log.place, continues_old(rt, &disk, &old))?;
-    let written = write_tiles(rt, &disk, old.size, size, folder.text);
-    let written = placed(folder.place, written)?;
-    let head = Head { size, root };
-    if !placed(folder.place, lead_to_root(rt, folder.text, &head, &written))? {
-        return Err(Stop::Fault(Fault::Damaged).at(log.place));
-    }
-    let note = placed(log.place, note_of(rt, &mut disk, &signer, origin))?;
+    let written = write_meanwhile(rt, old, log, folder)?;
+    let (head, note) = sign_all(rt, &written, &signer, origin, log, folder)?;
     let done = write_checkpoint(rt, folder.text, checkpoint.as_str(), &note);
     placed(folder.place, done)?;
     Ok(head)

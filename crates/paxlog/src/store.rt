@@ -306,3 +306,25 @@ pub fn recover_file(rt: &HostRuntime, log: Name, new: Name) -> Result<Recovered,
         Err(why) => Err(Stop::from(why).at(log.place)),
     }
 }
+
+/// Opens the file of a log that is to be signed later, and locks nothing: others may append to it.
+pub fn opened_to_sign(rt: &HostRuntime, path: &str) -> Result<FileDisk, Stop> {
+    let mut how = OpenOptions::new();
+    let file = how.read(true).write(true).open(rt, path)?;
+    Ok(FileDisk::new(file))
+}
+
+/// Opens the file of a log that is to be signed, as `to_be_signed` does, and waits for so many seconds at most while another process
+/// appends.
+pub fn signed_when_free(rt: &HostRuntime, path: &str, seconds: u64) -> Result<FileDisk, Stop> {
+    let start = Instant::now(rt)?;
+    for _turn in 0..usize::MAX {
+        match to_be_signed(rt, path) {
+            Err(Stop::Locked) if start.elapsed(rt)?.as_secs() < seconds => {
+                thread::sleep(rt, Duration::from_millis(PAUSE));
+            }
+            said => return said,
+        }
+    }
+    Err(Stop::Locked)
+}
