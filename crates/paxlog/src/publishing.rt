@@ -227,10 +227,11 @@ fn head_of(disk: &FileDisk) -> Result<Head, Stop>
     ensures fits { IfOk result (λ head. head.size < 2 ^ 63) }
     ensures near { IfOk result (λ head. file_end head.size < 2 ^ 64) }
 {
-    match log_store::root(disk, None) {
-        Ok((size, root)) => Ok(Head { size, root }),
-        Err(stop) => Err(Stop::from(stop)),
-    }
+    let (size, root) = match log_store::root(disk, None) {
+        Ok(root) => root,
+        Err(stop) => return Err(Stop::from(stop)),
+    };
+    Ok(Head { size, root })
 }
 
 // Writes to a folder the tiles of the log of a disk, which continues the old one. Returns its head once they are on the disk and lead to
@@ -243,7 +244,10 @@ fn write_on(
     log: Name,
     folder: Name,
 ) -> Result<Head, StopAt> {
-    let head = placed(log.place, head_of(disk))?;
+    let head = match head_of(disk) {
+        Ok(head) => head,
+        Err(why) => return Err(why.at(log.place)),
+    };
     if old.size > head.size {
         return Err(Stop::Shrunk.at(log.place));
     }
