@@ -33,6 +33,12 @@ placed-in file size level place below =
     stored-at size (position level place) file (position-within level place size (place-within level place size below))
     ∙ sym (row_of-at (front size (stored_in size file)) level place below)
 
+-- the digest of an entry
+pub leaf-placed : (leaves : List Digest) (file : List ℕ) (index : ℕ) → Keeps leaves (stored_in (length leaves) file)
+    → index < length leaves → placed file 0 index ≡ get_or leaves index []
+leaf-placed leaves file index keeps below =
+    placed-in file (length leaves) 0 index below ∙ ap (λ l. get_or l index []) keeps.lowest
+
 up-next : (level size : ℕ) → index_up (suc level) size ≡ index_up level size / 2
 up-next level size =
     let e : level + 1 ≡ suc level = omega arith in

@@ -1,4 +1,5 @@
 pub mod Disk
+pub mod Found
 pub mod Store
 pub mod Refused
 pub mod Overlay

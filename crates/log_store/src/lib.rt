@@ -8,6 +8,7 @@
 mod again;
 pub mod disk;
 mod edge;
+mod finding;
 mod growth;
 mod head;
 mod log;
@@ -23,6 +24,7 @@ mod window;
 pub use again::rewrite_head;
 pub use disk::Disk;
 pub use edge::read_digest;
+pub use finding::find;
 pub use growth::{append, append_after};
 pub use head::size;
 pub use log::root;
