@@ -66,7 +66,7 @@ def keeps_the_order(room, names, digests):
     for words, order in (
         (["append", log, names[5]], "O O L (R )+W S (R )+W (R )*W S W S W S "),
         (["append", log, "--after", 6, root(hashed).hex(), names[5]], "O O L (R )+W S (R )+W (R )*W S W S W S "),
-        (["append-lines", log, "--batch", 1, names[5]], "O O L (R )+W S (R )+W (R )*W S W S W S "),
+        (["append-lines", log, "--batch", 1, names[5]], "O O L (R )+W S R L L (R )+W (R )*W S W S W S R L "),
         (["append", log + "-new", names[5]], "O O L (R )*W S O S (R )*W (R )*W S W S W S "),
         # a log of no entries, whose name may not be on the disk
         (["append", log + "-bare", names[5]], "O O L (R )*W S O S (R )*W (R )*W S W S W S "),

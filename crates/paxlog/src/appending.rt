@@ -1,15 +1,15 @@
 //! Files and lines that are appended to a log.
 
-use crate::batches::{Batches, Source};
 use crate::progress::OnTerminal;
 use crate::reading::file_bytes;
 use crate::saying::say_size;
 use crate::stop::{Stop, StopAt, placed};
 use crate::store::Keeper;
+use crate::streams::{Publisher, append_batches};
 use crate::words::{Name, name_of_word};
 use ark_trees::digest_of_entry;
 use paxlog_run::entries::digests_of_lines;
-use paxlog_run::request::{Options, Word};
+use paxlog_run::request::{Options, Publication, Word};
 use std::io::Read;
 
 /// Returns the bytes of the file that a word names, or of standard input.
@@ -55,42 +55,22 @@ pub fn append_files(
     say_size(rt, append_entries(rt, log, options, &digests)?)
 }
 
-// Appends the lines of a file, so many at once, and writes each new size once it is on the disk.
-fn append_batches(
-    rt: &HostRuntime,
-    log: Name,
-    options: &Options,
-    file: Name,
-    count: usize,
-) -> Result<u8, StopAt> {
-    let source = placed(file.place, Source::open(rt, file.text))?;
-    let mut keeper = placed(log.place, Keeper::open(rt, log.text, options))?;
-    let mut batches = Batches::new(rt.alloc(), source, count);
-    for _turn in 0..u64::MAX {
-        let digests = placed(file.place, batches.next(rt))?;
-        // an empty input says the size that there is
-        if !digests.is_empty() || batches.is_first() {
-            let size = placed(log.place, keeper.append(rt, &digests))?;
-            say_size(rt, size)?;
-        }
-        if batches.is_at_end() {
-            return Ok(0);
-        }
-    }
-    Ok(0)
-}
-
 /// Appends the lines of a file, at once or in batches, and writes the new sizes. At once it shows how far it is.
 pub fn append_lines(
     rt: &HostRuntime,
     words: &[Vec<u8>],
     log: Word,
     options: &Options,
+    publication: Option<Publication>,
     file: Word,
 ) -> Result<u8, StopAt> {
     let (log, name) = (name_of_word(words, log)?, name_of_word(words, file)?);
     if let Some(count) = options.batch {
-        return append_batches(rt, log, options, name, count);
+        let publisher = match publication {
+            Some(publication) => Some(Publisher::new(rt, words, log, options, &publication)?),
+            None => None,
+        };
+        return append_batches(rt, log, options, publisher, name, count);
     }
     let mut progress = OnTerminal::new(rt);
     let bytes = bytes_of_file(rt, words, file)?;

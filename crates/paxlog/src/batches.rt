@@ -10,10 +10,11 @@ use std::io::Read;
 // How many bytes are read at once, at least.
 const PIECE: usize = 65536;
 
-/// Where lines are read: a file, or standard input.
+/// Where lines are read: a regular file, a pipe or a device that is named, or standard input.
 #[derive(Drop)]
 pub enum Source {
     File(File),
+    Pipe(File),
     Input,
 }
 
@@ -23,12 +24,25 @@ impl Source {
         if name == "-" {
             return Ok(Source::Input);
         }
-        Ok(Source::File(File::open(rt, name)?))
+        let file = File::open(rt, name)?;
+        if file.metadata()?.is_file() {
+            Ok(Source::File(file))
+        } else {
+            Ok(Source::Pipe(file))
+        }
+    }
+
+    // Whether what comes next is there already, so that no line waits for it.
+    fn is_there(&self) -> bool {
+        match self {
+            Source::File(_) => true,
+            _ => false,
+        }
     }
 
     fn read(&mut self, rt: &HostRuntime, into: &mut [u8]) -> io::Result<usize> {
         match self {
-            Source::File(file) => file.read(into),
+            Source::File(file) | Source::Pipe(file) => file.read(into),
             Source::Input => rt.stdin().read(into),
         }
     }
@@ -47,11 +61,12 @@ impl Progress for Silent {
 pub struct Batches {
     alloc: Global,
     source: Source,
-    // how many lines a batch has
+    // how many lines a batch has at most
     most: usize,
-    // what was read, and how much of it is in a batch
+    // what was read stands between two places of these bytes, but for what is in a batch
     bytes: Vec<u8>,
     taken: usize,
+    end: usize,
     // how many batches were given
     given: usize,
     is_at_end: bool,
@@ -65,6 +80,7 @@ impl Batches {
             most,
             bytes: Vec::new(alloc),
             taken: 0,
+            end: 0,
             given: 0,
             is_at_end: false,
         }
@@ -83,20 +99,26 @@ impl Batches {
     // Reads more, as many bytes again as there are at least, so that a long line is not searched too often. What is in a batch is let
     // go.
     fn read_more(&mut self, rt: &HostRuntime) -> Result<(), Stop> {
-        let mut bytes = Vec::from_slice(self.alloc, self.left())?;
-        let old = bytes.len();
-        bytes.resize(old.saturating_add(old.max(PIECE)), 0u8)?;
-        let more = self.source.read(rt, &mut bytes[old..])?;
-        bytes.truncate(old.saturating_add(more));
-        self.bytes = bytes;
+        let end = self.end.min(self.bytes.len());
+        let taken = self.taken.min(end);
+        self.bytes.copy_within(taken..end, 0);
+        let left = end - taken;
+        let room = left.saturating_add(left.max(PIECE));
+        if self.bytes.len() < room {
+            self.bytes.resize(room, 0u8)?;
+        }
+        let left = left.min(self.bytes.len());
+        let more = self.source.read(rt, &mut self.bytes[left..])?;
         self.taken = 0;
+        self.end = left.saturating_add(more);
         self.is_at_end = more == 0;
         Ok(())
     }
 
     // What is in no batch.
     fn left(&self) -> &[u8] {
-        &self.bytes[self.taken.min(self.bytes.len())..]
+        let end = self.end.min(self.bytes.len());
+        &self.bytes[self.taken.min(end)..end]
     }
 
     // Puts the digests of the lines of the next bytes behind others.
@@ -109,7 +131,8 @@ impl Batches {
         Ok(())
     }
 
-    /// Returns the digests of the next entries: of so many lines, or of those that are left, where the source has ended.
+    /// Returns the digests of the next entries, once there is one: of so many lines, or of those that are left, where the source has
+    /// ended; and of those that came, where others would be waited for.
     pub fn next(&mut self, rt: &HostRuntime) -> Result<Vec<[u8; 32]>, Stop> {
         let mut digests = Vec::new(self.alloc);
         self.given = self.given.saturating_add(1);
@@ -117,7 +140,8 @@ impl Batches {
             let lacking = self.most.saturating_sub(digests.len());
             let (end, _count) = whole_lines(self.left(), lacking);
             self.take(end, &mut digests)?;
-            if digests.len() >= self.most {
+            let is_enough = digests.len() >= self.most;
+            if is_enough || !digests.is_empty() && !self.source.is_there() {
                 return Ok(digests);
             }
             self.read_more(rt)?;

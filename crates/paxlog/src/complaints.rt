@@ -123,6 +123,9 @@ fn wrong_word(misuse: Misuse) -> (usize, &'static str) {
         Misuse::NoDigest(place) => (place, "it is no digest of 64 hexadecimal digits"),
         Misuse::NoLines(place) => (place, "a batch has one line at least"),
         Misuse::NoBatches => (0, "--batch is an option of append-lines"),
+        Misuse::NotInBatches => (0, "--publish needs --batch"),
+        Misuse::NoKeyFile => (0, "--publish needs --key"),
+        Misuse::NotPublished => (0, "--key, --origin and --every need --publish"),
         Misuse::NoKey(place) => (place, "--key has to stand here"),
         Misuse::NoOrigin(place) => (place, "--origin has to stand here"),
     }

@@ -8,6 +8,7 @@ mod complaints;
 mod file_disk;
 mod folders;
 mod followers;
+mod patience;
 mod picture;
 mod progress;
 mod publishing;
@@ -15,6 +16,7 @@ mod reading;
 mod saying;
 mod stop;
 mod store;
+mod streams;
 mod usage;
 mod words;
 mod writing;
@@ -23,19 +25,22 @@ use crate::appending::{append_files, append_lines, bytes_of_file};
 use crate::checkpoints::verifier;
 use crate::complaints::complain;
 use crate::followers::Source;
+use crate::patience::Patience;
 use crate::picture::{image_of, picture_text};
 use crate::saying::{
-    say, say_audited, say_checkpoint, say_head, say_proof, say_receipt, say_recovered, say_root,
-    say_verdict,
+    say, say_audited, say_checkpoint, say_head, say_index, say_proof, say_receipt, say_recovered,
+    say_root, say_verdict,
 };
-use crate::stop::{StopAt, placed};
+use crate::stop::{Stop, StopAt, placed};
 use crate::words::{folder_name, name_of_word, origin_of, words_behind_name};
+use ark_trees::digest_of_entry;
 use log_checkpoints::write_receipt;
 use log_file::fault::Fault;
 use log_store::InclusionProof;
 use paxlog_run::replies::line_of;
 use paxlog_run::request::{
-    Continuation, Inclusion, Keyed, Misuse, Request, Site, Word, bytes_at, request_of_words,
+    Continuation, Inclusion, Keyed, Misuse, Request, Site, Waiting, Word, bytes_at,
+    request_of_words, waiting_in,
 };
 use paxlog_run::verdicts::{check_consistency, check_inclusion};
 use std::process::ExitCode;
@@ -101,6 +106,16 @@ fn check_command(rt: &HostRuntime, words: &[Vec<u8>], log: Word) -> Result<u8, S
     let log = name_of_word(words, log)?;
     let holds = placed(log.place, store::check_file(rt, log.text))?;
     say_verdict(rt, holds)
+}
+
+// Where in a log an entry stands.
+fn find_command(rt: &HostRuntime, words: &[Vec<u8>], log: Word, file: Word) -> Result<u8, StopAt> {
+    let log = name_of_word(words, log)?;
+    let digest = digest_of_entry(&bytes_of_file(rt, words, file)?);
+    match placed(log.place, store::find_in_file(rt, log.text, &digest))? {
+        Some(index) => say_index(rt, index),
+        None => say_verdict(rt, false),
+    }
 }
 
 // Says what of a file can be recovered, or makes a new one of it; writes its size and its root.
@@ -255,17 +270,29 @@ fn audit_command(rt: &HostRuntime, words: &[Vec<u8>], site: &Site) -> Result<u8,
     }
 }
 
-// Keeps the entries of a log in a folder.
+// Keeps the entries of a log in a folder, as soon as no other process writes it, within so many seconds. The lines are read once: they
+// may be those of standard input.
 fn keep_command(
     rt: &HostRuntime,
     words: &[Vec<u8>],
     site: &Site,
     file: Word,
+    seconds: usize,
 ) -> Result<u8, StopAt> {
     let from = source_of(rt, words, site)?;
     let lines = bytes_of_file(rt, words, file)?;
-    let kept = followers::keep_in_folder(rt, &from, &lines);
-    say_head(rt, &placed(from.folder.place, kept)?)
+    let patience = Patience::new(rt, seconds)?;
+    for _turn in 0..usize::MAX {
+        match followers::keep_in_folder(rt, &from, &lines) {
+            Err(why) if why.is_busy() => {
+                if !patience.lasts(rt)? {
+                    return Err(why.at(from.folder.place));
+                }
+            }
+            kept => return say_head(rt, &placed(from.folder.place, kept)?),
+        }
+    }
+    Err(Stop::Written.at(from.folder.place))
 }
 
 // Moves a follower's state on.
@@ -321,15 +348,25 @@ fn help(rt: &HostRuntime, words: &[Vec<u8>], command: Option<Word>) -> Result<u8
     }
 }
 
-// Does what is asked for, and returns the status.
-fn carry_out(rt: &HostRuntime, request: Request, words: &[Vec<u8>]) -> Result<u8, StopAt> {
+// Does what is asked for, and returns the status. What is read of standard input waits for another process here, within so many seconds.
+fn carry_out(
+    rt: &HostRuntime,
+    request: Request,
+    words: &[Vec<u8>],
+    seconds: usize,
+) -> Result<u8, StopAt> {
     match request {
         Request::Append {
             log,
             options,
             files,
         } => append_files(rt, words, log, &options, files),
-        Request::AppendLines { log, options, file } => append_lines(rt, words, log, &options, file),
+        Request::AppendLines {
+            log,
+            options,
+            publication,
+            file,
+        } => append_lines(rt, words, log, &options, publication, file),
         Request::Root { log, size } => root_command(rt, words, log, size),
         Request::Prove { log, index, size } => {
             let proof = proof_for_words(rt, words, log, index, size)?;
@@ -350,6 +387,7 @@ fn carry_out(rt: &HostRuntime, request: Request, words: &[Vec<u8>]) -> Result<u8
             size,
         } => consistency_command(rt, words, log, old_size, size),
         Request::Check { log } => check_command(rt, words, log),
+        Request::Find { log, file } => find_command(rt, words, log, file),
         Request::Recover { log, new } => recover_command(rt, words, log, new),
         Request::Verify(shown) => verify_command(rt, words, &shown),
         Request::VerifyConsistency(shown) => verify_continuation(rt, words, &shown),
@@ -364,7 +402,7 @@ fn carry_out(rt: &HostRuntime, request: Request, words: &[Vec<u8>]) -> Result<u8
         }
         Request::Tiles { log, folder, keyed } => tiles(rt, words, log, folder, &keyed),
         Request::Audit { site } => audit_command(rt, words, &site),
-        Request::Keep { site, file } => keep_command(rt, words, &site, file),
+        Request::Keep { site, file } => keep_command(rt, words, &site, file, seconds),
         Request::Follow { site, state } => follow(rt, words, &site, state),
         Request::TileProof {
             site,
@@ -387,9 +425,35 @@ fn carry_out(rt: &HostRuntime, request: Request, words: &[Vec<u8>]) -> Result<u8
     }
 }
 
+// Does what is asked for as soon as no other process does what one alone does at a time, within so many seconds. Whoever finds another
+// one at work has done nothing yet.
+fn carry_out_in_turn(
+    rt: &HostRuntime,
+    request: Request,
+    words: &[Vec<u8>],
+    seconds: usize,
+) -> Result<u8, StopAt> {
+    let patience = Patience::new(rt, seconds)?;
+    for _turn in 0..usize::MAX {
+        match carry_out(rt, request, words, seconds) {
+            Err(stop) if stop.why.is_busy() => {
+                if !patience.lasts(rt)? {
+                    return Err(stop);
+                }
+            }
+            done => return done,
+        }
+    }
+    Err(StopAt::from(Stop::Locked))
+}
+
 fn run_words(rt: &HostRuntime, words: &[Vec<u8>]) -> Result<u8, StopAt> {
-    match request_of_words(words) {
-        Ok(request) => carry_out(rt, request, words),
+    let Waiting { count, seconds } = match waiting_in(words) {
+        Ok(waiting) => waiting,
+        Err(misuse) => return Err(StopAt::from(misuse)),
+    };
+    match request_of_words(&words[..count]) {
+        Ok(request) => carry_out_in_turn(rt, request, &words[..count], seconds),
         Err(misuse) => Err(StopAt::from(misuse)),
     }
 }

@@ -32,7 +32,7 @@ const ROUNDS: usize = 16;
 const FEW: usize = 1024;
 
 /// For how many seconds a signature is put off at most while another process appends.
-const PATIENCE: u64 = 10;
+const PATIENCE: usize = 10;
 
 // The name of a tile below a folder.
 fn tile_path(rt: &HostRuntime, folder: &str, tile: Tile) -> Result<String, Stop> {

@@ -57,6 +57,11 @@ pub fn say_size(rt: &HostRuntime, size: usize) -> Result<u8, StopAt> {
     }
 }
 
+/// Writes the index of an entry, and returns the status.
+pub fn say_index(rt: &HostRuntime, index: usize) -> Result<u8, StopAt> {
+    say(rt, format!(in rt.alloc(); "{index}\n")?.as_bytes())
+}
+
 /// Writes the size and the root of a log, and returns the status.
 pub fn say_root(rt: &HostRuntime, size: usize, root: &[u8; 32]) -> Result<u8, StopAt> {
     say(rt, &line_of_root(rt.alloc(), size, root)?)

@@ -70,6 +70,14 @@ fn of_system(error: io::Error) -> Stop {
 }
 
 impl Stop {
+    /// Returns whether another process does what one alone does at a time.
+    pub fn is_busy(&self) -> bool {
+        match self {
+            Stop::Locked | Stop::Written | Stop::Followed => true,
+            _ => false,
+        }
+    }
+
     /// Names the file at a place of the words.
     pub fn at(self, place: usize) -> StopAt {
         StopAt {

@@ -1,6 +1,7 @@
 //! The file of a log: it is opened, locked, and made where it has no byte.
 
 use crate::file_disk::FileDisk;
+use crate::patience::Patience;
 use crate::stop::{Stop, StopAt, placed};
 use crate::words::Name;
 use log_file::fault::Fault;
@@ -10,11 +11,7 @@ use paxlog_run::request::{After, Options};
 use std::fs::{File, OpenOptions, TryLockError};
 use std::io::{Read, Write};
 use std::os::unix::fs::{MetadataExt, OpenOptionsExt};
-use std::time::{Duration, Instant};
-use std::{fs, io, thread};
-
-// For how many milliseconds nothing is tried while another process is waited for.
-const PAUSE: u64 = 20;
+use std::{fs, io};
 
 // How often a file is opened whose name another file takes before it is locked.
 const TURNS: usize = 64;
@@ -63,16 +60,15 @@ fn is_after(after: &After, size: usize, root: &[u8; 32]) -> bool {
 
 // Locks a file, and waits for so many seconds at most while another process has locked it.
 fn lock(rt: &HostRuntime, file: &File, seconds: usize) -> Result<(), Stop> {
-    let start = Instant::now(rt)?;
+    let patience = Patience::new(rt, seconds)?;
     for _turn in 0..usize::MAX {
         match file.try_lock() {
             Ok(()) => return Ok(()),
             Err(TryLockError::Error(error)) => return Err(Stop::from(error)),
             Err(TryLockError::WouldBlock) => {
-                if start.elapsed(rt)?.as_secs() as usize >= seconds {
+                if !patience.lasts(rt)? {
                     return Err(Stop::Locked);
                 }
-                thread::sleep(rt, Duration::from_millis(PAUSE));
             }
         }
     }
@@ -103,6 +99,8 @@ pub struct Keeper<'a> {
     path: &'a str,
     disk: FileDisk,
     after: Option<After>,
+    // the head that the file had on the disk when the lock was let go
+    left: Option<[u8; START]>,
 }
 
 impl<'a> Keeper<'a> {
@@ -118,7 +116,39 @@ impl<'a> Keeper<'a> {
             path,
             disk,
             after: options.after,
+            left: None,
         })
+    }
+
+    // The bytes of the head.
+    fn head(&self) -> Result<[u8; START], Stop> {
+        let mut head = [0; START];
+        self.disk.read_at(0, &mut head)?;
+        Ok(head)
+    }
+
+    /// Unlocks the file, so that others append to the log and sign it until it is locked again.
+    pub fn let_go(&mut self) -> Result<(), Stop> {
+        self.left = Some(self.head()?);
+        self.disk.file.unlock()?;
+        Ok(())
+    }
+
+    /// Locks the file again, and waits for so many seconds at most while another process has locked it.
+    pub fn lock_again(&mut self, rt: &HostRuntime, seconds: usize) -> Result<(), Stop> {
+        lock(rt, &self.disk.file, seconds)
+    }
+
+    // Writes the head again that another process wrote since the lock was let go, as at the opening: its sync may have been refused. The
+    // head that was left is on the disk.
+    fn keep_head(&mut self) -> Result<(), Stop> {
+        let left = self.left;
+        if let Some(left) = left {
+            if left != self.head()? {
+                log_store::rewrite_head(&mut self.disk)?;
+            }
+        }
+        Ok(())
     }
 
     // Refuses a file that no longer has its name: what is appended to it is not in the log that the name has.
@@ -146,6 +176,7 @@ impl<'a> Keeper<'a> {
             return self.size();
         }
         self.keep_name(rt)?;
+        self.keep_head()?;
         let disk = &mut self.disk;
         disk.is_slot_begun = false;
         let alloc = rt.alloc();
@@ -226,6 +257,16 @@ pub fn consistency_of_file(
     let proof = log_store::consistency(rt.alloc(), &disk, old_size, named)?;
     bind(rt, &disk, named, &proof.root)?;
     Ok(proof.path)
+}
+
+/// Returns the first index at which the log of a file has an entry with a digest; none where it has none.
+pub fn find_in_file(
+    rt: &HostRuntime,
+    path: &str,
+    digest: &[u8; 32],
+) -> Result<Option<usize>, Stop> {
+    let disk = FileDisk::new(File::open(rt, path)?);
+    Ok(log_store::find(&disk, digest)?)
 }
 
 /// Returns whether a file is that of a log.
@@ -316,12 +357,14 @@ pub fn opened_to_sign(rt: &HostRuntime, path: &str) -> Result<FileDisk, Stop> {
 
 /// Opens the file of a log that is to be signed, as `to_be_signed` does, and waits for so many seconds at most while another process
 /// appends.
-pub fn signed_when_free(rt: &HostRuntime, path: &str, seconds: u64) -> Result<FileDisk, Stop> {
-    let start = Instant::now(rt)?;
+pub fn signed_when_free(rt: &HostRuntime, path: &str, seconds: usize) -> Result<FileDisk, Stop> {
+    let patience = Patience::new(rt, seconds)?;
     for _turn in 0..usize::MAX {
         match to_be_signed(rt, path) {
-            Err(Stop::Locked) if start.elapsed(rt)?.as_secs() < seconds => {
-                thread::sleep(rt, Duration::from_millis(PAUSE));
+            Err(Stop::Locked) => {
+                if !patience.lasts(rt)? {
+                    return Err(Stop::Locked);
+                }
             }
             said => return said,
         }

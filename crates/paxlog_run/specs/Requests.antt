@@ -1,5 +1,5 @@
 -- The words behind the command's name.
-use Rattle.std.specs.Prelude.{ℕ, ◌+◌, ◌==◌, ◌||◌, is_none, nat_lt, not, get_or, length, List, [], if◌then◌else◌, Bool, true, false, Option, Some, None, Result, Ok, Err, codes}
+use Rattle.std.specs.Prelude.{ℕ, ◌+◌, ◌-◌, ◌==◌, ◌||◌, ◌&&◌, is_none, nat_lt, not, get_or, length, List, [], if◌then◌else◌, Bool, true, false, Option, Some, None, Result, Ok, Err, codes}
 use Rattle.std.specs.Result.{result_ok}
 use Rattle.std.specs.Str.{bytes_eq}
 use Rattle.hex.specs.Hex.{decode_sized}
@@ -8,11 +8,13 @@ use Rattle.ark_paths.specs.Pair.{Digest}
 use Rattle.paxlog_run.specs.declared.request.Word.{Word}
 use Rattle.paxlog_run.specs.declared.request.Request.{Request}
 use Rattle.paxlog_run.specs.declared.request.Misuse.{Misuse}
-use Rattle.paxlog_run.specs.declared.request.Misuse.TheVariants.{Nothing, NoCommand, TooFew, TooMany, NoNumber, NoDigest, NoLines, NoBatches, NoKey, NoOrigin}
+use Rattle.paxlog_run.specs.declared.request.Misuse.TheVariants.{Nothing, NoCommand, TooFew, TooMany, NoNumber, NoDigest, NoLines, NoBatches, NotInBatches, NoKeyFile, NotPublished, NoKey, NoOrigin}
 use Rattle.paxlog_run.specs.declared.request.appends.OptionsAt.{OptionsAt}
 use Rattle.paxlog_run.specs.declared.request.Keyed.{Keyed}
+use Rattle.paxlog_run.specs.declared.request.Publication.{Publication}
+use Rattle.paxlog_run.specs.declared.request.waits.Waiting.{Waiting}
 use Rattle.paxlog_run.specs.declared.request.Site.{Site}
-use Rattle.paxlog_run.specs.declared.request.Request.TheVariants.{Append, AppendLines, Root, Prove, Show, Consistency, Check, Recover, Verify, VerifyConsistency, Keygen, Checkpoint, VerifyCheckpoint, Tiles, Audit, Follow, Keep, TileProof, VerifyReceipt, Witness, Help, Version}
+use Rattle.paxlog_run.specs.declared.request.Request.TheVariants.{Append, AppendLines, Root, Prove, Show, Consistency, Check, Find, Recover, Verify, VerifyConsistency, Keygen, Checkpoint, VerifyCheckpoint, Tiles, Audit, Follow, Keep, TileProof, VerifyReceipt, Witness, Help, Version}
 
 -- the digest that a word spells in hexadecimal
 abbrev pub digest_in_hex : List ℕ → Option Digest
@@ -112,6 +114,12 @@ check_request words = do
   count ← counted words 2 2
   Ok (Check (typed_at 1))
 
+-- find LOG FILE
+abbrev pub find_request : List (List ℕ) → Read Request
+find_request words = do
+  count ← counted words 3 3
+  Ok (Find (typed_at 1) (typed_at 2))
+
 -- recover LOG [NEW]
 abbrev pub recover_request : List (List ℕ) → Read Request
 recover_request words = do
@@ -163,7 +171,35 @@ version_request words = do
 
 -- no option yet, behind LOG
 abbrev pub no_options : OptionsAt
-no_options = record { options = record { after = None; wait = 0; batch = None }; place = 2 }
+no_options = record {
+  options = record { after = None; wait = 0; batch = None };
+  publish = record { folder = None; key_file = None; origin = None; every = None };
+  place = 2;
+}
+
+-- what options say of a publication, with one of them more, if one stands at the place
+abbrev pub publish_more : List (List ℕ) → OptionsAt → Read OptionsAt
+publish_more words at =
+    let word = typed_at (at.place + 1) in
+    if bytes_eq (get_or words at.place []) (codes "--publish") then Ok (record at {
+      publish = record at.publish { folder = Some word };
+      place = at.place + 2;
+    })
+    else if bytes_eq (get_or words at.place []) (codes "--key") then Ok (record at {
+      publish = record at.publish { key_file = Some word };
+      place = at.place + 2;
+    })
+    else if bytes_eq (get_or words at.place []) (codes "--origin") then Ok (record at {
+      publish = record at.publish { origin = Some word };
+      place = at.place + 2;
+    })
+    else if bytes_eq (get_or words at.place []) (codes "--every") then (do
+      every ← number_word_at words (at.place + 1)
+      Ok (record at {
+        publish = record at.publish { every = Some every };
+        place = at.place + 2;
+      }))
+    else Ok at
 
 -- one option more, if one stands at the place: each may stand anywhere among them, and the last of its kind counts
 abbrev pub option_more : List (List ℕ) → OptionsAt → Read OptionsAt
@@ -177,48 +213,79 @@ option_more words at =
           wait = at.options.wait;
           batch = at.options.batch;
         };
+        publish = at.publish;
         place = at.place + 3;
       }))
     else if bytes_eq (get_or words at.place []) (codes "--wait") then (do
       seconds ← number_word_at words (at.place + 1)
       Ok (record {
         options = record { after = at.options.after; wait = seconds; batch = at.options.batch };
+        publish = at.publish;
         place = at.place + 2;
       }))
     else if bytes_eq (get_or words at.place []) (codes "--batch") then (do
       count ← number_word_at words (at.place + 1)
       if count == 0 then Err (NoLines (at.place + 1)) else Ok (record {
         options = record { after = at.options.after; wait = at.options.wait; batch = Some count };
+        publish = at.publish;
         place = at.place + 2;
       }))
-    else Ok at
+    else publish_more words at
 
 -- a place of files, or that behind it where -- stands there
 abbrev pub files_at : List (List ℕ) → ℕ → ℕ
 files_at words place = if bytes_eq (get_or words place []) (codes "--") then place + 1 else place
 
--- at most three options, and the place of the files behind them
+-- at most seven options, and the place of the files behind them
 abbrev pub options_in : List (List ℕ) → Read OptionsAt
 options_in words = do
   one ← option_more words no_options
   two ← option_more words one
   three ← option_more words two
-  Ok (record { options = three.options; place = files_at words three.place })
+  four ← option_more words three
+  five ← option_more words four
+  six ← option_more words five
+  seven ← option_more words six
+  Ok (record { options = seven.options; publish = seven.publish; place = files_at words seven.place })
+
+-- a publication of batches alone, with the key that signs it; 0 milliseconds where none are named
+abbrev pub published_as : Option Word → Option Word → Option Word → Option ℕ → Option ℕ → Read (Option Publication)
+published_as None key_file origin every batch =
+    if is_none key_file && is_none origin && is_none every then Ok None else Err NotPublished
+published_as (Some folder) None origin every batch = Err NoKeyFile
+published_as (Some folder) (Some key_file) origin every None = Err NotInBatches
+published_as (Some folder) (Some key_file) origin None (Some count) = Ok (Some (record {
+  folder = folder;
+  keyed = record { key_file = key_file; origin = origin };
+  every = 0;
+}))
+published_as (Some folder) (Some key_file) origin (Some every) (Some count) = Ok (Some (record {
+  folder = folder;
+  keyed = record { key_file = key_file; origin = origin };
+  every = every;
+}))
+
+-- where a log is published, by its options
+abbrev pub publication_of : OptionsAt → Read (Option Publication)
+publication_of at =
+    published_as at.publish.folder at.publish.key_file at.publish.origin at.publish.every at.options.batch
 
 -- append LOG [--after SIZE ROOT] [--wait SECONDS] [--] FILE ..: at once, so that they name no batch
 abbrev pub append_request : List (List ℕ) → Read Request
 append_request words = do
   at ← options_in words
-  if not (is_none at.options.batch) then Err NoBatches
-      else if nat_lt at.place (length words) then Ok (Append (typed_at 1) at.options at.place)
-      else Err TooFew
+  if not (is_none at.options.batch) then Err NoBatches else do
+    publication ← publication_of at
+    if nat_lt at.place (length words) then Ok (Append (typed_at 1) at.options at.place) else Err TooFew
 
--- append-lines LOG [--after SIZE ROOT] [--wait SECONDS] [--batch COUNT] [--] FILE
+-- append-lines LOG [--after SIZE ROOT] [--wait SECONDS] [--batch COUNT] [--] FILE, and [--publish FOLDER --key KEYFILE
+-- [--origin ORIGIN] [--every MILLISECONDS]] among the options
 abbrev pub append_lines_request : List (List ℕ) → Read Request
 append_lines_request words = do
   at ← options_in words
+  publication ← publication_of at
   count ← counted words (at.place + 1) (at.place + 1)
-  Ok (AppendLines (typed_at 1) at.options (typed_at at.place))
+  Ok (AppendLines (typed_at 1) at.options publication (typed_at at.place))
 
 -- keygen NAME KEYFILE, or keygen-witness
 abbrev pub keygen_request : List (List ℕ) → Bool → Read Request
@@ -316,6 +383,7 @@ abbrev pub asked_of_checks : List ℕ → List (List ℕ) → Read Request
 asked_of_checks word words =
     if bytes_eq word (codes "consistency") then consistency_request words
     else if bytes_eq word (codes "check") then check_request words
+    else if bytes_eq word (codes "find") then find_request words
     else if bytes_eq word (codes "recover") then recover_request words
     else if bytes_eq word (codes "verify") then verify_request words
     else if bytes_eq word (codes "verify-consistency") then verify_consistency_request words
@@ -335,3 +403,18 @@ asked_of_logs word words =
 -- what the words ask for
 abbrev pub request_of_words : List (List ℕ) → Read Request
 request_of_words words = if nat_lt 0 (length words) then asked_of_logs (get_or words 0 []) words else Err Nothing
+
+-- whether a command waits for another process by the words at its end
+abbrev pub waits_at_end : List ℕ → Bool
+waits_at_end word =
+    bytes_eq word (codes "checkpoint") || bytes_eq word (codes "tiles") || bytes_eq word (codes "recover")
+    || bytes_eq word (codes "keep") || bytes_eq word (codes "follow") || bytes_eq word (codes "witness")
+
+-- how many words stand before --wait SECONDS at their end, and the seconds: all and 0 where it does not stand there
+abbrev pub waiting_in : List (List ℕ) → Read Waiting
+waiting_in words =
+    if nat_lt 2 (length words) && waits_at_end (get_or words 0 [])
+    && bytes_eq (get_or words (length words - 2) []) (codes "--wait") then (do
+      seconds ← number_word_at words (length words - 1)
+      Ok (record { count = length words - 2; seconds = seconds }))
+    else Ok (record { count = length words; seconds = 0 })

@@ -7,9 +7,11 @@ mod appends;
 mod parts;
 mod signed;
 mod unsigned;
+mod waits;
 
 use crate::request::appends::{append_lines_request, append_request};
 use crate::request::unsigned::{asked_of_checks, prove_request, root_request, show_request};
+pub use crate::request::waits::{Waiting, waiting_in};
 
 /// A word that is asked about, by its place among the words; the command's own has place 0.
 #[derive(Clone, Copy)]
@@ -62,6 +64,15 @@ pub struct Keyed {
     pub origin: Option<Word>,
 }
 
+/// Where lines that are appended in batches are published.
+#[derive(Clone, Copy)]
+pub struct Publication {
+    pub folder: Word,
+    pub keyed: Keyed,
+    /// How many milliseconds lie at least between two batches behind which it is published.
+    pub every: usize,
+}
+
 /// The folder of a log's tiles, the key that signed its checkpoint, and the origin, where one is named.
 #[derive(Clone, Copy)]
 pub struct Site {
@@ -82,6 +93,8 @@ pub enum Request {
     AppendLines {
         log: Word,
         options: Options,
+        /// Where the log is published behind its batches, if it is.
+        publication: Option<Publication>,
         file: Word,
     },
     Root {
@@ -107,6 +120,11 @@ pub enum Request {
     },
     Check {
         log: Word,
+    },
+    /// Where in LOG the entry stands that FILE is.
+    Find {
+        log: Word,
+        file: Word,
     },
     /// What of LOG is whole; NEW is made of it where it is named.
     Recover {
@@ -189,6 +207,12 @@ pub enum Misuse {
     NoLines(usize),
     /// Files are appended at once, and not in batches.
     NoBatches,
+    /// Only batches are published.
+    NotInBatches,
+    /// What is published is signed.
+    NoKeyFile,
+    /// An option of what is published stands alone.
+    NotPublished,
     /// `--key` has to stand here.
     NoKey(usize),
     /// `--origin` has to stand here.

@@ -1,7 +1,7 @@
 //! What is asked for by words about logs in files, and about the command itself.
 
 ghost use Rattle.std.specs.Prelude.{◌≡◌, map, vec_items};
-ghost use Rattle.paxlog_run.specs.Requests.{asked_of_checks, asked_of_help, check_request, consistency_request, help_request, prove_request, recover_request, root_request, show_request, usage_request, verify_consistency_request, verify_request, version_request};
+ghost use Rattle.paxlog_run.specs.Requests.{asked_of_checks, asked_of_help, check_request, consistency_request, find_request, help_request, prove_request, recover_request, root_request, show_request, usage_request, verify_consistency_request, verify_request, version_request};
 
 use crate::request::parts::{
     counted, digest_word_at, number_word_at, origin_at, size_at, typed_at,
@@ -63,6 +63,17 @@ fn check_request(words: &[Vec<u8>]) -> Result<Request, Misuse>
 {
     counted(words, 2, 2)?;
     Ok(Request::Check { log: typed_at(1) })
+}
+
+// The search for an entry that is asked for.
+fn find_request(words: &[Vec<u8>]) -> Result<Request, Misuse>
+    ensures { result ≡ find_request (map vec_items words.now) }
+{
+    counted(words, 3, 3)?;
+    Ok(Request::Find {
+        log: typed_at(1),
+        file: typed_at(2),
+    })
 }
 
 // The recovery that is asked for.
@@ -153,6 +164,8 @@ pub fn asked_of_checks(word: &[u8], words: &[Vec<u8>]) -> Result<Request, Misuse
         consistency_request(words)
     } else if word == b"check".as_slice() {
         check_request(words)
+    } else if word == b"find".as_slice() {
+        find_request(words)
     } else if word == b"recover".as_slice() {
         recover_request(words)
     } else if word == b"verify".as_slice() {
