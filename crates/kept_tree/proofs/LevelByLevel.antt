@@ -9,7 +9,7 @@ use Rattle.ark_paths.specs.Pair.{Digest}
 use Rattle.ark_merkle.specs.Batch.{puts}
 use Rattle.kept_tree.proofs.Changing.{on_way-up, same_or}
 use Rattle.kept_tree.proofs.Besides.{HasLevels}
-use Rattle.kept_tree.specs.KeptTree.{AreApart, AreInside, PlacesHashed, ChangesLeaves, KeepsTree, IsHashed, IsOnWay, IsOnWays, LevelHashed, PlainNode, RehashesAbove, kept_leaves, leaf_count, place_above}
+use Rattle.kept_tree.specs.KeptTree.{NoneIsBelow, AreInside, PlacesHashed, ChangesLeaves, KeepsTree, IsHashed, IsOnWay, IsOnWays, LevelHashed, PlainNode, RehashesAbove, kept_leaves, leaf_count, place_above}
 
 -- Of some places the first so many are hashed.
 pub record PlacesUpTo (node : PlainNode) (old now : List Digest) (places : List ℕ) (count : ℕ) : Type 0 where
@@ -91,7 +91,8 @@ module _ (node : PlainNode) (old : List Digest) (places : List ℕ) where
   places-next now count place digest inside so is own = record {
     long = length-set now place digest ∙ so.long;
     written = λ j under. by_place j under (cases_lt (get_or places j 0) place) (cases_lt place (get_or places j 0));
-    others = λ i apart. get_or-set_other now place i digest [] (λ e. apart count (omega arith) (subst (λ (p : ℕ). i ≡ p) is e))
+    others = λ i apart.
+        get_or-set_other now place i digest [] (λ e. apart count (omega arith) (subst (λ (p : ℕ). i ≡ p) is e))
         ∙ so.others i (λ j under. apart j (omega arith));
   }
     where
@@ -112,7 +113,7 @@ module _ (node : PlainNode) (old : List Digest) (places : List ℕ) where
           let same : get_or places j 0 ≡ place = omega arith in
           rw (same) (get_or-set_same now place digest [] inside ∙ own ∙ rw (is) refl)
 
-  pub places-all : (now : List Digest) → PlacesUpTo node old now places (length places) → AreApart places
+  pub places-all : (now : List Digest) → PlacesUpTo node old now places (length places) → NoneIsBelow places
       → PlacesHashed node old now places
   places-all now so apart = record {
     long = so.long;
@@ -214,7 +215,7 @@ module _ {levels level : ℕ} (node : PlainNode) (old : List Digest) (tree : Has
 
   -- Those that wait stand apart, and have two places below them.
   pub waits-apart : (now : List Digest) (count : ℕ) (run : List ℕ) (waiting : ℕ) → count ≤ length indexes
-      → LevelWaits node old now level indexes count run waiting → AreApart (take waiting run)
+      → LevelWaits node old now level indexes count run waiting → NoneIsBelow (take waiting run)
   waits-apart now count run waiting below so i j first second =
       let room = length-take-le waiting run (omega (arith, so.room, so.within)) in
       let a = so.waits i (omega (arith, room, first)) in

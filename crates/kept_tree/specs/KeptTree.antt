@@ -84,8 +84,8 @@ abbrev pub AreInside : ℕ → List ℕ → Type 0
 AreInside count places = (i : ℕ) → i < length places → 2 * get_or places i 0 + 2 < count
 
 -- None of the places stands below another.
-abbrev pub AreApart : List ℕ → Type 0
-AreApart places = (i j : ℕ) → i < length places → j < length places
+abbrev pub NoneIsBelow : List ℕ → Type 0
+NoneIsBelow places = (i j : ℕ) → i < length places → j < length places
     → (get_or places i 0 ≢ 2 * get_or places j 0 + 1) × (get_or places i 0 ≢ 2 * get_or places j 0 + 2)
 
 -- The digests at some places are hashed from those below them, which are as before, as are all others.

@@ -3,7 +3,7 @@
 ghost use Rattle.std.specs.List.{All};
 ghost use Rattle.std.specs.Prelude.{◌≡◌, ◌<◌, ◌≤◌, length, true};
 ghost use Rattle.ark_paths.specs.Index.{log2};
-ghost use Rattle.kept_tree.specs.KeptTree.{AreApart, AreInside, LevelHashed, PlacesHashed, RehashesAbove, is_tree_length, leaf_count};
+ghost use Rattle.kept_tree.specs.KeptTree.{NoneIsBelow, AreInside, LevelHashed, PlacesHashed, RehashesAbove, is_tree_length, leaf_count};
 
 use crate::path::levels_of;
 use crate::runs::{RUN, hashes_of};
@@ -14,7 +14,7 @@ fn hash_places<H: ArrayHash>(memory: &mut [[u8; 32]], places: &[usize])
     requires run { length places.now ≤ 64 }
     requires some { 0 < length memory.old }
     requires inside { AreInside (length memory.old) places.now }
-    requires apart { AreApart places.now }
+    requires apart { NoneIsBelow places.now }
     ensures { PlacesHashed H.node_hash memory.old memory.new places.now }
 {
     let digests = hashes_of::<H>(memory, places);

@@ -39,8 +39,8 @@ pub record IsFrontier (hash : NodeHash) (digests : List Digest) (size : ℕ) (pe
 abbrev pub peak_back : List Digest → ℕ → Digest
 peak_back peaks k = get_or peaks (length peaks - 1 - k) []
 
--- A digest behind so many others makes more with the last roots, one behind the other, as long as the number of trees of
--- that height is odd. There the hash refuses a pair with this error.
+-- A digest behind so many others makes more with the last roots, one behind the other, as long as the number of trees
+-- of that height is odd. There the hash refuses a pair with this error.
 pub record RefusesPeak (hash : NodeHash) (size : ℕ) (peaks : List Digest) (digest : Digest) (error : Error) :
     Type 0 where
   pub level : ℕ

@@ -34,8 +34,10 @@ pub returns : goal.returns
 returns g c =
     waits-all g.H.ArrayHash.node_hash c.args.memory.now (has_levels (length c.args.memory.now) c.requires.size)
     c.requires.high c.args.indexes.now (λ j below. c.requires.indexes j 0 below) c.hash_places-2.new.memory
-    c.indexes.index-index c.indexes.run (omega arith) (waits-hashed g.H.ArrayHash.node_hash c.args.memory.now (has_levels (length c.args.memory.now) c.requires.size)
-    c.requires.high c.args.indexes.now (λ j below. c.requires.indexes j 0 below) c.indexes.memory c.hash_places-2.new.memory c.indexes.index-index c.indexes.run c.indexes.count (omega arith)
+    c.indexes.index-index c.indexes.run (omega arith)
+    (waits-hashed g.H.ArrayHash.node_hash c.args.memory.now (has_levels (length c.args.memory.now) c.requires.size)
+    c.requires.high c.args.indexes.now (λ j below. c.requires.indexes j 0 below) c.indexes.memory
+    c.hash_places-2.new.memory c.indexes.index-index c.indexes.run c.indexes.count (omega arith)
     c.indexes.invariant c.hash_places-2.ensures)
 
 pub hash_places-requires-clause-inside : goal.hash_places-requires-clause-inside
@@ -68,7 +70,8 @@ indexes-preserved g c =
       ])
       | else-count-eq0+else-run-count w ↦ rw (w.memory-is, w.run-is, w.count-is) (waits-same g.H.ArrayHash.node_hash
           c.args.memory.now tree c.requires.high c.args.indexes.now (λ j below. c.requires.indexes j 0 below)
-          c.indexes.memory c.indexes.index-index c.indexes.run c.indexes.count c.indexes.invariant (omega (arith, w.if-count-eq0.false))
-          (w.if-run-count.false ∙ ap (λ n. (n + get_or c.args.indexes.now c.indexes.index-index 0) / 2 ^ c.args.level - 1)
-          tree.half))
+          c.indexes.memory c.indexes.index-index c.indexes.run c.indexes.count c.indexes.invariant
+          (omega (arith, w.if-count-eq0.false))
+          (w.if-run-count.false
+          ∙ ap (λ n. (n + get_or c.args.indexes.now c.indexes.index-index 0) / 2 ^ c.args.level - 1) tree.half))
     ]

@@ -19,7 +19,8 @@ returns g c = λ i below.
     let run = take (length c.args.places.now) c.couples.couples in
     let inside : (length c.args.places.now) ≤ length c.couples.couples = omega (arith, c.couples.invariant.long) in
     let long : length c.nodes.new.digests ≡ (length c.args.places.now) =
-    ap length c.nodes.ensures ∙ length-map run hash ∙ length-take-le (length c.args.places.now) c.couples.couples inside in
+    ap length c.nodes.ensures ∙ length-map run hash
+    ∙ length-take-le (length c.args.places.now) c.couples.couples inside in
     get_or_append_left c.nodes.new.digests _ [] i (omega (arith, long, below))
     ∙ ap (λ (ds : List (List ℕ)). get_or ds i []) c.nodes.ensures
     ∙ mapped-reads hash c.couples.couples (length c.args.places.now)
