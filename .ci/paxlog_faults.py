@@ -242,6 +242,26 @@ def opens_at_once(room, names):
             os.remove(log)
 
 
+def opens_while_replaced(room, names, digests):
+    """A log is recovered, and the new file takes its name, while openers wait: what each is told is there."""
+    log, new = room + "/moved", room + "/moved-new"
+    for turn in range(max(ROUNDS // 4, 5)):
+        write(log, file_of(digests[:3]))
+        with open(log, "rb") as held:
+            fcntl.flock(held, fcntl.LOCK_SH)
+            started = [[PROGRAM, "append", log, "--wait", "60", name] for name in names[3:7]]
+            ran = [subprocess.Popen(each, stdout=subprocess.PIPE, stderr=subprocess.PIPE) for each in started]
+            time.sleep(DRAWS.random() / 50)
+            check("it is recovered", ask("recover", log, new)[0] == 0)
+            os.rename(new, log)
+            time.sleep(DRAWS.random() / 100)
+        said = [process.communicate()[0] for process in ran]
+        check("each is told its size", all(process.returncode == 0 for process in ran) and sorted(map(int, said)) == [4, 5, 6, 7])
+        order = [digests[place] for _, place in sorted((int(size), place) for place, size in enumerate(said, 3))]
+        check("and its entry is there", ask("root", log)[1] == "7 %s\n" % root(digests[:3] + order).hex() and read(log) == file_of(digests[:3] + order))
+    os.remove(log)
+
+
 def is_replaced(room, names, digests):
     """Another file takes the log's name, or none has it: what is acknowledged is in the log of that name."""
     log, new = room + "/replaced", room + "/replaced-new"
