@@ -5,4 +5,5 @@ pub mod Lengths
 pub mod Rehashed
 pub mod PathWrites
 pub mod LevelByLevel
+pub mod LevelPlaces
 pub mod MultiPaths

@@ -1,6 +1,6 @@
 use Rattle.std.proofs.Common.{◌+◌, ◌-◌, ◌/◌, ◌^◌, get_or, length, refl, ap, ◌∙◌, arith}
 use Rattle.kept_tree.proofs.Besides.{has_levels, level-small}
-use Rattle.kept_tree.proofs.LevelByLevel.{place-some, waits-all, waits-apart, waits-hashed, waits-inside, waits-more, waits-none, waits-same}
+use Rattle.kept_tree.proofs.LevelPlaces.{place-some, waits-all, waits-apart, waits-hashed, waits-inside, waits-more, waits-none, waits-same}
 use Rattle.kept_tree.proofs.many.hash_level.Goals.{then-count-eq0, then-count-eq-RUN, else-count-eq-RUN, else-count-eq0+else-run-count}
 use Rattle.kept_tree.proofs.many.hash_level.Goals as goal
 

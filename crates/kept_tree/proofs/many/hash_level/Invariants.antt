@@ -1,4 +1,4 @@
-use Rattle.kept_tree.proofs.LevelByLevel.{LevelWaits}
+use Rattle.kept_tree.proofs.LevelPlaces.{LevelWaits}
 use Rattle.kept_tree.proofs.many.hash_level.Given as goal
 
 abbrev pub invariant-indexes : goal.invariant-indexes

@@ -1,5 +1,5 @@
 use Rattle.std.proofs.Common.{◌≡◌, length, subst, arith}
-use Rattle.kept_tree.proofs.LevelByLevel.{PlacesUpTo, places-none, places-all}
+use Rattle.kept_tree.proofs.LevelPlaces.{PlacesUpTo, places-none, places-all}
 use Rattle.kept_tree.proofs.many.hash_places.Goals as goal
 
 pub places-init : goal.places-init

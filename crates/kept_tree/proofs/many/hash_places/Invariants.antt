@@ -1,4 +1,4 @@
-use Rattle.kept_tree.proofs.LevelByLevel.{PlacesUpTo}
+use Rattle.kept_tree.proofs.LevelPlaces.{PlacesUpTo}
 use Rattle.kept_tree.proofs.many.hash_places.Given as goal
 
 abbrev pub invariant-places : goal.invariant-places
