@@ -213,12 +213,12 @@ PAXIDORE_ANSWERS PAXIDORE_NOT_NULL((3)) int32_t paxidore_log_append(uint8_t *mor
 PAXIDORE_ANSWERS PAXIDORE_NOT_NULL((1)) int32_t paxidore_log_root(uint8_t root[32],
     const uint8_t *kept, size_t kept_len, size_t size);
 
-/* Writes the bytes of the inclusion proof of `index` in the first `size` entries. E_SIZE, E_INDEX, E_ROOM, E_MEMORY. */
+/* Writes the bytes of the inclusion proof of `index` in the first `size` entries. E_SIZE, E_INDEX, E_ROOM. */
 PAXIDORE_ANSWERS PAXIDORE_NOT_NULL((3)) int32_t paxidore_log_inclusion(
     uint8_t *path, size_t path_room, size_t *path_len, const uint8_t *kept, size_t kept_len, size_t size, size_t index);
 
 /* Writes the bytes of the proof that the first `size` entries continue the first `old_size` ones; of equal sizes there
- * are none. E_SIZE, also for the old size 0 and for one above the size, E_ROOM, E_MEMORY. */
+ * are none. E_SIZE, also for the old size 0 and for one above the size, E_ROOM. */
 PAXIDORE_ANSWERS PAXIDORE_NOT_NULL((3)) int32_t paxidore_log_consistency( uint8_t *proof, size_t proof_room,
     size_t *proof_len, const uint8_t *kept, size_t kept_len, size_t old_size, size_t size);
 
@@ -290,8 +290,8 @@ PAXIDORE_ANSWERS int32_t paxidore_log_file_check(const uint8_t *file, size_t fil
  * map has at a key and of what it has not. Hash other values first. Keys should be hashes: whoever chooses keys can
  * make a neighbour's proof longer. The first bit of a key is the highest of its first byte.
  *
- * A tree is the bytes of a map's tree, of which parts may be hidden: byte 0 is nothing; 1 an entry, with key and value
- * behind it; 2 a fork, with the tree of the entries whose next bit is 0 and that of the others behind it; 3 a hidden
+ * A tree is the bytes of a map's tree, of which parts may be hidden: byte 0 is an entry, with key and value behind it;
+ * 1 a fork, with the tree of the entries whose next bit is 0 and that of the others behind it; 2 nothing; 3 a hidden
  * tree, with its digest. The digest of nothing is the SHA-256 of no bytes, that of an entry of a zero byte, key and
  * value, that of a fork of a one byte and both digests. E_TRUNCATED, E_INVALID: the bytes are no tree, or no proof. */
 /* No proof of one key of a map has more bytes; a row of a map's store has so many. */

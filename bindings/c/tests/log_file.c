@@ -161,14 +161,14 @@ static void appends(void) {
         entries[n] = (uint8_t)n, lengths[n] = 1;
     ASKED(answer, &file, paxidore_log_file_make(PLAN, PIECES));
     CHECK(answer == PAXIDORE_OK && plan.steps.bytes_len > 0 && plan.steps.bytes_len <= paxidore_log_file_room(0));
-    const size_t head = plan.steps.bytes_len;
+    const size_t head = plan.steps.bytes_len, first = plan.places[0].len;
     /* whatever part of the head is written, it is made anew, and a whole one is written again */
     for (size_t part = 0; part <= head; part++) {
         struct plan whole = plan;
         memset(&torn, 0, sizeof torn);
-        carry_out(&torn, 0, part);
+        carry_out(&torn, part < first ? 0 : 1, part < first ? part : part - first);
         ASKED(answer, &torn, paxidore_log_file_make(PLAN, PIECES));
-        CHECK(answer == PAXIDORE_OK && plan.steps.bytes_len == head && plan.steps.places_len == 1);
+        CHECK(answer == PAXIDORE_OK && plan.steps.bytes_len == head && plan.steps.places_len == 2);
         carry_out(&torn, plan.steps.places_len, 0);
         CHECK(is_log_of(&torn, 0, 1));
         plan = whole;

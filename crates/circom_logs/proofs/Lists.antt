@@ -8,9 +8,9 @@ use Rattle.ark_base.specs.Outcome.{Outcome}
 use Rattle.ark_base.specs.declared.error.Error.TheVariants.{OutOfMemory}
 use Rattle.circom_logs.specs.Nodes.{no_element_error}
 use Rattle.circom_logs.specs.declared.refusal.NoElement.{NoElement}
-use Rattle.merkle_log.specs.Given.{GivesBy}
+use Rattle.merkle_log.specs.Edge.{all_of}
 use Rattle.merkle_log.specs.Kept.{KeepsBy, front}
-use Rattle.merkle_log.specs.Log.{NodeHash}
+use Rattle.merkle_log.specs.Log.{NodeHash, inclusion_path}
 use Rattle.merkle_log.specs.Stored.{row_at}
 use Rattle.merkle_log.proofs.Carried.{stored-none}
 use Rattle.merkle_log.proofs.Positions.{no-count, no-rows}
@@ -32,11 +32,13 @@ keeps-none hash = record {
   hashed = stored-none hash (row_at (front 0 [])) no-rows;
 }
 
--- what is given, seen in another way
-pub given-seen : {A B R : Type 0} (why : R → Error) (view other : A → B) (outcome : Outcome B) (result : Result A R)
-    → ((value : A) → view value ≡ other value) → GivesBy why view outcome result → GivesBy why other outcome result
-given-seen why view other outcome (Ok value) same given = given ∙ ap Ok (same value)
-given-seen why view other outcome (Err refusal) same given = given
+-- the path of the same leaves by the same hash
+pub path-same : {hash node : NodeHash} (empty : Digest) (index : ℕ) {own leaves : List Digest} → hash ≡ node
+    → own ≡ leaves
+    → all_of (inclusion_path node empty index leaves) ≡ all_of (inclusion_path hash empty index own)
+path-same {hash} empty index {leaves = leaves} same fewer =
+    ap (λ (h : NodeHash). all_of (inclusion_path h empty index leaves)) (sym same)
+    ∙ ap (λ l. all_of (inclusion_path hash empty index l)) (sym fewer)
 
 -- a digest that is no element is no lack of memory
 pub never-memory : (refusal : NoElement) → no_element_error refusal ≡ OutOfMemory → ⊥

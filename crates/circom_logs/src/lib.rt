@@ -15,6 +15,6 @@ mod tree;
 pub use elements::are_elements;
 pub use list::{path_of_elements, root_of_elements};
 pub use log::{appended_digests, inclusion_path, kept_log_root};
-pub use nodes::{CircomNodes, CircomPaths};
+pub use nodes::CircomNodes;
 pub use refusal::{NoElement, NodeRefusal};
 pub use tree::CircomTree;

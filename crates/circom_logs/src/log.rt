@@ -11,12 +11,14 @@ ghost use Rattle.merkle_log.specs.Edge.{all_of};
 ghost use Rattle.merkle_log.specs.Given.{GivesBy};
 ghost use Rattle.merkle_log.specs.Kept.{KeepsBy};
 ghost use Rattle.merkle_log.specs.Log.{inclusion_path, merkle_tree_hash};
+ghost use Rattle.merkle_log.specs.Received.{inclusion_length};
 ghost use Rattle.merkle_log.specs.Stored.{stored_count};
 
-use crate::nodes::{CircomNodes, CircomPaths};
+use crate::nodes::CircomNodes;
 use crate::refusal::{NoElement, NodeRefusal};
 use circom_bytes::CircomTable;
 use merkle_log::kept::{Kept, append_by, stored_count};
+use merkle_log::path_lengths::inclusion_length;
 use merkle_log::paths::inclusion_path_of;
 use merkle_log::rows::root_of;
 use std::alloc::Global;
@@ -39,6 +41,28 @@ pub fn kept_log_root(table: &CircomTable, kept: &Kept) -> Result<[u8; 32], NodeR
     }
 }
 
+// Writes the path of an index to a list that has a place for each of its digests.
+fn write_path(
+    table: &CircomTable,
+    kept: &Kept,
+    index: usize,
+    path: &mut [[u8; 32]],
+) -> Result<(), NodeRefusal>
+    requires two { table.now.inputs ≡ 2 }
+    requires inside { index < kept.now.size }
+    requires room { length path.old ≡ inclusion_length kept.now.size index }
+    ensures { (c : Parameters) → IsTableOf c table.now → (leaves : List Digest)
+        → kept.now.size ≤ length leaves → KeepsBy (node_outcome c) leaves kept.now.digests
+        → (empty : Digest) → GivesBy refusal_error (λ _. path.new)
+        (all_of (inclusion_path (node_outcome c) empty index (take kept.now.size leaves)))
+        result }
+{
+    match inclusion_path_of(&mut CircomNodes::new(table), kept, kept.size(), index, path) {
+        Ok(()) => Ok(()),
+        Err(refused) => Err(NodeRefusal::from(refused)),
+    }
+}
+
 /// Returns the path of an index, from the element up: PATH(index, D[0:size]).
 ///
 /// If the memory is not that of a log, it is some digests, or `Element` is refused.
@@ -56,8 +80,10 @@ pub fn inclusion_path(
         (all_of (inclusion_path (node_outcome c) empty index (take kept.now.size leaves)))
         result }
 {
-    let path = Vec::new(alloc);
-    inclusion_path_of(&mut CircomPaths::new(table), kept, kept.size(), index, path)
+    let length = inclusion_length(kept.size() as u64, index as u64) as usize;
+    let mut path = vec![in alloc; [0u8; 32]; length]?;
+    write_path(table, kept, index, &mut path)?;
+    Ok(path)
 }
 
 /// Returns the digests to put behind the stored ones of a log for more elements.

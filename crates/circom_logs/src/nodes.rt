@@ -3,13 +3,13 @@
 ghost use Rattle.std.specs.Prelude.{◌≡◌};
 ghost use Rattle.circom_bytes.specs.Hash.{table_outcome};
 ghost use Rattle.circom_logs.specs.Decided.{element-decided, table-decided};
-ghost use Rattle.circom_logs.specs.Nodes.{element_hashes, no_element_error, refusal_error};
+ghost use Rattle.circom_logs.specs.Nodes.{element_hashes, no_element_error};
 
-use crate::refusal::{NoElement, NodeRefusal};
+use crate::refusal::NoElement;
 use ark_base::error::{Error, SerializationError};
 use ark_paths::hasher::TreeHasher;
 use circom_bytes::{CircomTable, is_element};
-use merkle_log::nodes::{NodeHasher, PathHasher};
+use merkle_log::nodes::NodeHasher;
 use std::alloc::Global;
 
 /// Hashes pairs of elements by a table of two inputs, and counts them. It asks for no memory.
@@ -52,53 +52,6 @@ impl<'a> NodeHasher<[u8; 32]> for CircomNodes<'a> {
 
     fn copied(&self, digest: &[u8; 32]) -> Result<[u8; 32], NoElement> {
         Ok(*digest)
-    }
-}
-
-/// Hashes pairs as `CircomNodes`, and makes paths, for which it asks for memory.
-#[derive(Drop)]
-pub struct CircomPaths<'a> {
-    nodes: CircomNodes<'a>,
-}
-
-impl<'a> CircomPaths<'a> {
-    /// Borrows a table. No pair was hashed yet.
-    pub fn new(table: &'a CircomTable) -> CircomPaths<'a>
-        requires { table.now.inputs ≡ 2 }
-        ensures hash { ⟦<Self as NodeHasher<[u8; 32]>>⟧.hash result ≡ table_outcome table.now }
-        ensures none { ⟦<Self as NodeHasher<[u8; 32]>>⟧.counted result ≡ 0 }
-    {
-        CircomPaths {
-            nodes: CircomNodes::new(table),
-        }
-    }
-}
-
-impl<'a> NodeHasher<[u8; 32]> for CircomPaths<'a> {
-    type Refusal = NodeRefusal;
-
-    ghost hash = { λ own. ⟦<CircomNodes<'a> as NodeHasher<[u8; 32]>>⟧.hash own.nodes };
-
-    ghost counted = { λ own. ⟦<CircomNodes<'a> as NodeHasher<[u8; 32]>>⟧.counted own.nodes };
-
-    ghost why = { refusal_error };
-
-    fn node(&mut self, left: &[u8; 32], right: &[u8; 32]) -> Result<[u8; 32], NodeRefusal> {
-        match self.nodes.node(left, right) {
-            Ok(digest) => Ok(digest),
-            Err(NoElement) => Err(NodeRefusal::Element),
-        }
-    }
-
-    fn copied(&self, digest: &[u8; 32]) -> Result<[u8; 32], NodeRefusal> {
-        Ok(*digest)
-    }
-}
-
-impl<'a> PathHasher<[u8; 32]> for CircomPaths<'a> {
-    fn put(&self, path: &mut Vec<[u8; 32]>, digest: &[u8; 32]) -> Result<(), NodeRefusal> {
-        path.push(*digest)?;
-        Ok(())
     }
 }
 

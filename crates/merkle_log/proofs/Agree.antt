@@ -33,11 +33,11 @@ one_less none c d ys xs less same = (
 )
 
 -- the seed of a way, at this level and at one more
-seed_here : {D : Type 0} {i : ℕ} {root seed : D} {path rest : List D} → i % 2 ≡ 0 → (i ≡ 0) × (seed ≡ root)
+pub seed_here : {D : Type 0} {i : ℕ} {root seed : D} {path rest : List D} → i % 2 ≡ 0 → (i ≡ 0) × (seed ≡ root)
     × (rest ≡ path) ⊎ (0 < i) × (path ≡ seed ∷ rest) → IsSeed i root path 0 seed rest
 seed_here even is = record { whole = λ level below. absurd (omega arith); even = even; is = is }
 
-seed_higher : {D : Type 0} {i start : ℕ} {root seed : D} {path rest : List D} → i % 2 ≡ 1
+pub seed_higher : {D : Type 0} {i start : ℕ} {root seed : D} {path rest : List D} → i % 2 ≡ 1
     → IsSeed (i / 2) root path start seed rest → IsSeed i root path (suc start) seed rest
 seed_higher {D} {i} {start} odd is = record { whole = whole; even = is.even; is = is.is }
   where
@@ -46,7 +46,7 @@ seed_higher {D} {i} {start} odd is = record { whole = whole; even = is.even; is 
     whole (suc level) below = is.whole level (omega arith)
 
 -- What a step of both ways hashes: for the old root only a digest that stands left, for the new one always.
-both_stepped : {D E : Type 0} (hash : D → D → Result D E) (i : ℕ) (old own digest : D) (ends : D × D)
+pub both_stepped : {D E : Type 0} (hash : D → D → Result D E) (i : ℕ) (old own digest : D) (ends : D × D)
     → turn (both_left hash) (new_right hash) (i % 2 == 1) (old, own) digest ≡ Ok ends
     → ((if i % 2 == 1 then (hash digest old) else (Ok old)) ≡ Ok ends.0)
     × (hash (in_order i own digest).0 (in_order i own digest).1 ≡ Ok ends.1)
@@ -77,8 +77,9 @@ module _ {D E : Type 0} (hash : D → D → Result D E) (empty : Result D E) whe
     OwnPairs : (level place : ℕ) → TreesCollideAt hash empty old_xs xs level place → Clash old_xs xs start i s ends path
 
   -- a pair of the row above, at the level that is one more
-  higher_pair : {xs ys : List D} {a b place : ℕ} {pair : D × D} → IsAbove hash xs ys → length ys ≡ (length xs + 1) / 2
-      → b ≡ suc a → IsTreePair hash empty ys a place pair → IsTreePair hash empty xs b place pair
+  pub higher_pair : {xs ys : List D} {a b place : ℕ} {pair : D × D} → IsAbove hash xs ys
+      → length ys ≡ (length xs + 1) / 2 → b ≡ suc a → IsTreePair hash empty ys a place pair
+      → IsTreePair hash empty xs b place pair
   higher_pair {xs} {ys} {a} {b} {place} {pair} up size e tree =
       rw (e) (tree_pair-up empty xs ys a place pair up size tree)
 

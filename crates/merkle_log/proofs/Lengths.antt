@@ -1,9 +1,9 @@
 -- How many digests a path has.
-use Rattle.std.proofs.Common.{zero, suc, ◌≡◌, ℕ, ◌+◌, ◌/◌, ◌%◌, ◌<◌, ◌≤◌, ◌^◌, true, false, ◌==◌, if◌then◌else◌, arith, refl, sym, ◌∙◌}
+use Rattle.std.proofs.Common.{zero, suc, ◌≡◌, ℕ, ◌+◌, ◌/◌, ◌%◌, ◌<◌, ◌≤◌, ◌^◌, true, false, ◌==◌, if◌then◌else◌, arith, refl, ap, sym, ◌∙◌}
 use Rattle.std.proofs.lemmas.Bool.{eq-eqb, ne_eqb}
 use Rattle.merkle_log.specs.Walk.{has_beside, used_below}
 use Rattle.merkle_log.specs.Received.{length_from}
-use Rattle.merkle_log.proofs.Tests.{fewer, if_odd, if_even}
+use Rattle.merkle_log.proofs.Tests.{fewer, twice, if_odd, if_even}
 use Rattle.merkle_log.proofs.Sound.{beside-none}
 
 -- a level with a digest beside, and one without
@@ -14,10 +14,20 @@ used-alone : (k i s : ℕ) → has_beside i s ≡ false → used_below (suc k) i
 used-alone k i s alone = rw (alone) refl
 
 -- the last row
-used-none : (k i s : ℕ) → i ≡ 0 → s ≡ 0 → used_below k i s ≡ 0
+pub used-none : (k i s : ℕ) → i ≡ 0 → s ≡ 0 → used_below k i s ≡ 0
 used-none zero i s e f = refl
 used-none (suc k) i s e f = used-alone k i s (beside-none i s (omega arith) (omega arith))
     ∙ used-none k (i / 2) (s / 2) (omega arith) (omega arith)
+
+-- as many for every count of levels that reaches the root
+pub used-same : (k j i s : ℕ) → s < 2 ^ k → s < 2 ^ j → i ≤ s → used_below k i s ≡ used_below j i s
+used-same zero j i s high low inside = sym (used-none j i s (omega arith) (omega arith))
+used-same (suc k) zero i s high low inside = used-none (suc k) i s (omega arith) (omega arith)
+used-same (suc k) (suc j) i s high low inside =
+    let two = twice k in
+    let again = twice j in
+    ap (λ n. if has_beside i s then suc n else n)
+    (used-same k j (i / 2) (s / 2) (omega arith) (omega arith) (omega arith))
 
 -- So many digests were counted, and with some levels left there are so many in all.
 pub record Counts (i s used total : ℕ) : Type 0 where
@@ -60,7 +70,7 @@ module _ {i s total : ℕ} (at : Leads i s total) where
       (omega (arith, at.inside)) at.high at.is (λ k high is. sym (if_odd i _ _ odd) ∙ is) in
       record { levels = up.levels; high = up.high; inside = omega (arith, at.inside); is = up.at }
 
-  leads-even : i % 2 ≡ 0 → (seed rest : ℕ) → (if i == 0 then 0 else 1) ≡ seed → ((k : ℕ) → s < 2 ^ k → rest
+  pub leads-even : i % 2 ≡ 0 → (seed rest : ℕ) → (if i == 0 then 0 else 1) ≡ seed → ((k : ℕ) → s < 2 ^ k → rest
       ≡ used_below k i s) → seed + rest ≡ total
   leads-even even seed rest seed_is rest_is = go at.levels at.high at.inside at.is
     where

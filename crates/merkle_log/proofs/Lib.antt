@@ -6,6 +6,7 @@ pub mod Above
 pub mod TreePairs
 pub mod Sound
 pub mod Agree
+pub mod Begins
 pub mod Own
 pub mod Verdicts
 pub mod Along
@@ -42,3 +43,4 @@ pub mod KeptPlaces
 pub mod Levels
 pub mod RisenRows
 pub mod LaidRows
+pub mod Rooms

@@ -12,7 +12,7 @@ use Rattle.ark_paths.specs.Pair.{Digest, Hashes}
 use Rattle.merkle_log.specs.Log.{NodeHash}
 use Rattle.merkle_log.specs.Verdict.{leaf_verdict, consistency_verdict}
 use Rattle.merkle_log.specs.Received.{whole_read, digests_in, received_inclusion, received_consistency, ShowsLogLeaf, ShowsFront}
-use Rattle.merkle_log.proofs.Verdicts.{leaf-bound, consistency-bound}
+use Rattle.merkle_log.proofs.Verdicts.{leaf-bound, consistency-bound, consistency-root}
 
 -- bytes are left
 pub whole-more : {V : Type 0} (digest : V → Digest) (outcome : Outcome (List V × List ℕ)) (values : List V)
@@ -77,8 +77,12 @@ module _ (hash : NodeHash) (old_size : ℕ) (old : Digest) (size : ℕ) (new : D
           old_size old size new)) ≡ Ok true → ShowsFront hash old_size old size new path
       by_test true is = absurd (refused _ _ refl is)
       by_test false is =
-          let read = bind_ok path (consistency_verdict hash old_size old size new) true is in
-          (read.0, read.1, consistency-bound hash old_size old size new read.0 read.2)
+          let read = bind_ok path (consistency_verdict hash old_size old size new) true is in (
+            read.0,
+            read.1,
+            consistency-bound hash old_size old size new read.0 read.2,
+            consistency-root hash old_size old size new read.0 read.2,
+          )
 
 -- ---- the verdict on what was read, under a count by another name
 

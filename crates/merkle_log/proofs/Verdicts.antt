@@ -12,13 +12,14 @@ use Rattle.merkle_log.specs.Walk.{joined, walk, on_left, on_right, both_roots}
 use Rattle.ark_paths.specs.Pair.{Digest, Hashes}
 use Rattle.merkle_log.specs.Log.{NodeHash, merkle_tree_hash}
 use Rattle.merkle_log.specs.Verdict.{ends_at, ends_at_both, is_empty, inclusion_verdict, consistency_verdict, leaf_verdict}
-use Rattle.merkle_log.specs.Bind.{BindsDigest, BindsLogLeaf, BindsFront, IsInclusion, IsLeafInclusion, IsConsistency}
+use Rattle.merkle_log.specs.Bind.{BindsDigest, BindsLogLeaf, BindsFront, BindsOldRoot, IsInclusion, IsLeafInclusion, IsConsistency}
 use Rattle.merkle_log.specs.Collision.{InTrees}
 use Rattle.merkle_log.proofs.Tests.{twice, stays, power-rises}
 use Rattle.merkle_log.proofs.Above.{there}
 use Rattle.merkle_log.proofs.TreePairs.{pair_same}
 use Rattle.merkle_log.proofs.Sound.{walk-binds}
 use Rattle.merkle_log.proofs.Agree.{both_roots-agree, same_root}
+use Rattle.merkle_log.proofs.Begins.{both_roots-begins}
 use Rattle.merkle_log.proofs.Own.{walk-own, both_roots-own}
 
 pub same_digests : (x y : Digest) → (x ≡ y) ⊎ (x ≢ y)
@@ -173,6 +174,38 @@ module _ (hash : NodeHash) (old_size : ℕ) (old : Digest) (size : ℕ) (new : D
                   | inl front ↦ inl (front ∙ ap (λ n. take n digests) one)
                 ]
           ]
+    ]
+  ]
+
+  -- the front of a list with the new root
+  pub consistency-root : consistency_verdict hash old_size old size new path ≡ Ok true
+      → BindsOldRoot hash old_size old size new path
+  consistency-root is empty digests long tree = elim (cases_lt 0 old_size) [
+    | inr none ↦ absurd (not_accepted (sym (sizes-refused (inl (omega arith))) ∙ is))
+    | inl some ↦ elim (cases_lt size old_size) [
+      | inl less ↦ absurd (not_accepted (sym (sizes-refused (inr less)) ∙ is))
+      | inr le ↦ elim (cases_lt old_size size) [
+        | inr ge ↦
+            let same : old_size ≡ size = omega arith in
+            let roots = (bytes_eq-Decides old new).0 (and_parts (is_empty path) (bytes_eq old new)
+            (refused _ (sym (sizes-same some same) ∙ is))).1 in
+            inl (ap (merkle_tree_hash hash empty) (take_all old_size digests (omega (arith, long))) ∙ tree
+            ∙ ap Ok (sym roots))
+        | inl more ↦
+            let front = take old_size digests in
+            let first : length front ≡ old_size = length-take-le old_size digests (omega (arith, long)) in
+            let levels = λ (n : ℕ). tree_hash (joined hash) (Ok empty) n (there front) in
+            let one : old_size - 1 + 1 ≡ old_size = omega arith in
+            let high = pow_above size in
+            elim (both_roots-begins same_digests hash [] (Ok empty) size (old_size - 1) (size - 1) old path new digests
+            (omega arith) (omega arith) (omega arith) (sized hash empty digests size new long tree)
+            (ended_at_both old new _ (sym (sizes-grown some more) ∙ is))) [
+              | inr found ↦ inr found
+              | inl begins ↦ inl (ap levels first ∙ sym (tree_hash-levels (joined hash) (Ok empty) old_size size
+                  (there front) (omega (arith, pow_above old_size, length-map {B = Outcome Digest} front Ok, first)) le)
+                  ∙ ap (λ n. tree_hash (joined hash) (Ok empty) size (there (take n digests))) (sym one) ∙ begins)
+            ]
+      ]
     ]
   ]
 

@@ -1,7 +1,7 @@
 -- What an accepted proof says of each list of digests with the root.
 use Rattle.std.specs.Prelude.{◌≡◌, ◌⊎◌, ◌<◌, ◌-◌, ℕ, List, [], length, map, take, get_or, Ok}
 use Rattle.ark_paths.specs.Pair.{Digest, Hashes}
-use Rattle.merkle_log.specs.Collision.{PathCollidesAt, HistoriesCollide}
+use Rattle.merkle_log.specs.Collision.{PathCollidesAt, HistoriesCollide, WalkCollides}
 use Rattle.merkle_log.specs.Log.{NodeHash, merkle_tree_hash, inclusion_path, consistency_path}
 
 -- ---- inclusion
@@ -47,6 +47,14 @@ BindsFront hash old_size old size new path = (empty : Digest) (old_digests diges
     → merkle_tree_hash hash empty old_digests ≡ Ok old → merkle_tree_hash hash empty digests ≡ Ok new
     → (old_digests ≡ take old_size digests)
     ⊎ HistoriesCollide hash (Ok empty) old_digests digests (old_size - 1) (size - 1) old path
+
+-- One list is enough: the front of each list of the new size with the new root has the old root, or a pair of the walk
+-- for the new root and one of the list's tree collide, at a level that is named.
+abbrev pub BindsOldRoot : NodeHash → ℕ → Digest → ℕ → Digest → List Digest → Type 0
+BindsOldRoot hash old_size old size new path = (empty : Digest) (digests : List Digest) → length digests ≡ size
+    → merkle_tree_hash hash empty digests ≡ Ok new
+    → (merkle_tree_hash hash empty (take old_size digests) ≡ Ok old)
+    ⊎ WalkCollides hash (Ok empty) digests (old_size - 1) (size - 1) old path
 
 -- The path is PROOF(m, D) of a list with the new root and size, whose first m digests have the old root.
 pub record IsConsistency (hash : NodeHash) (old_size : ℕ) (old : Digest) (size : ℕ) (new : Digest)

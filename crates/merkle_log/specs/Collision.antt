@@ -63,6 +63,12 @@ pub record NewCollidesAt {D E : Type 0} (hash : D → D → Result D E) (empty :
   pub tree : IsTreePair hash empty new (start + level) (index_up (suc level) i) pair
   pub collide : Collide hash (in_order (index_up level i) reached.1 sibling) pair
 
+-- Behind its seed the walk of a consistency proof has such a pair at a level. The lists' last indexes are i and s.
+abbrev pub WalkCollides : {D E : Type 0} → (D → D → Result D E) → Result D E → List D → ℕ → ℕ → D → List D → Type 0
+WalkCollides {D} hash empty new i s root path = (start : ℕ) × (seed : D) × (rest : List D)
+    × IsSeed i root path start seed rest × (level : ℕ)
+    × NewCollidesAt hash empty new start (index_up start i) (index_up start s) (seed, seed) rest level
+
 -- Two lists' own trees have two different pairs below one place, which hash alike.
 pub record TreesCollideAt {D E : Type 0} (hash : D → D → Result D E) (empty : Result D E) (old new : List D)
     (level place : ℕ) : Type 0 where

@@ -10,7 +10,7 @@ use Rattle.ark_paths.specs.Pair.{Digest, Hashes}
 use Rattle.merkle_log.specs.Walk.{used_below}
 use Rattle.merkle_log.specs.Log.{NodeHash}
 use Rattle.merkle_log.specs.Verdict.{leaf_verdict, consistency_verdict}
-use Rattle.merkle_log.specs.Bind.{BindsLogLeaf, BindsFront}
+use Rattle.merkle_log.specs.Bind.{BindsLogLeaf, BindsFront, BindsOldRoot}
 
 -- how many digests the path of an index has
 abbrev pub inclusion_length : ℕ → ℕ → ℕ
@@ -56,7 +56,8 @@ abbrev pub ShowsLogLeaf : {A : Type 0} → Hashes A → Digest → ℕ → ℕ �
 ShowsLogLeaf hashes root size index leaf path =
     (digests : List Digest) × (path ≡ Ok digests) × BindsLogLeaf hashes root size index leaf digests
 
--- The bytes spell a path that binds the old root.
+-- The bytes spell a path that binds the old root, by two lists and by one.
 abbrev pub ShowsFront : NodeHash → ℕ → Digest → ℕ → Digest → Outcome (List Digest) → Type 0
 ShowsFront hash old_size old size new path =
     (digests : List Digest) × (path ≡ Ok digests) × BindsFront hash old_size old size new digests
+    × BindsOldRoot hash old_size old size new digests

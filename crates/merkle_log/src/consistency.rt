@@ -3,7 +3,7 @@
 ghost use Rattle.std.specs.Prelude.{◌≡◌, ◌<◌, ◌≤◌, ◌^◌, ℕ, true, map, IfOk, Ok};
 ghost use Rattle.ark_base.specs.Outcome.{Answers, AnswersBy};
 ghost use Rattle.merkle_log.specs.Walk.{hash_both as hash_of_both};
-ghost use Rattle.merkle_log.specs.Bind.{BindsFront, IsConsistency};
+ghost use Rattle.merkle_log.specs.Bind.{BindsFront, BindsOldRoot, IsConsistency};
 ghost use Rattle.merkle_log.specs.Verdict.{both_seen, leads_to_both, leads_from_seed, consistency_verdict};
 
 use crate::digests::{are_both_same, copy_of};
@@ -36,6 +36,11 @@ pub fn verify_consistency<D: DigestItem, T: TreeHasher<D, D>>(
     // that are named differ and hash alike: of the walk and one list's tree, or of both lists' trees.
     ensures bound { IfOk result (λ accepted. accepted ≡ true
         → BindsFront (T.hashes hasher.now).pair.upper old_size (D.numbers old_root.now) new_size
+        (D.numbers new_root.now) (map D.numbers path.now)) }
+
+    // One list is enough: the front of each list with the new root has the old root, or such a pair of the walk is named.
+    ensures front { IfOk result (λ accepted. accepted ≡ true
+        → BindsOldRoot (T.hashes hasher.now).pair.upper old_size (D.numbers old_root.now) new_size
         (D.numbers new_root.now) (map D.numbers path.now)) }
 
     // A log's own path is accepted.

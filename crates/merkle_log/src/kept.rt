@@ -1,7 +1,8 @@
 //! Logs whose stored digests lie in the caller's memory: roots, proofs and growth, in the hashing of RFC 6962 (section 2.1).
 //!
 //! The stored digests are those of all complete subtrees, in the order in which they are completed. They only grow, so that
-//! they can lie in a file. Roots and checks allocate nothing and refuse nothing. `append_by` does it by any hash of pairs.
+//! they can lie in a file. Roots, checks and what writes a proof to the caller's list allocate nothing and refuse nothing.
+//! `append_by` does it by any hash of pairs.
 
 ghost use Rattle.std.specs.Prelude.{◌≡◌, ◌<◌, ◌≤◌, ◌^◌, List, [], true, false, nat_lt, length, take, IfOk, MatchOption, Ok};
 ghost use Rattle.sha2.specs.Sha256.{sha256};
@@ -10,13 +11,15 @@ ghost use Rattle.ark_trees.specs.Rfc6962.{node_of};
 ghost use Rattle.merkle_log.specs.Edge.{all_of};
 ghost use Rattle.merkle_log.specs.Kept.{front, has_front, Keeps};
 ghost use Rattle.merkle_log.specs.Log.{consistency_path, inclusion_path, merkle_tree_hash};
+ghost use Rattle.merkle_log.specs.Received.{consistency_length, inclusion_length};
 ghost use Rattle.merkle_log.specs.Stored.{stored_count, StoredValue};
 
 mod check;
 mod growth;
 mod node;
 
-pub use crate::kept::node::{KeptNodes, KeptPaths, Never};
+pub use crate::kept::node::{KeptNodes, Never};
+use crate::path_lengths::{consistency_length, inclusion_length};
 use crate::paths::{consistency_path_of, inclusion_path_of};
 use crate::places::digest_at;
 pub use crate::places::{position_of, stored_count};
@@ -121,6 +124,22 @@ impl<'a> Kept<'a> {
         }
     }
 
+    /// Writes the path of an index, from the leaf up, to `path`: PATH(index, D[0:size]). It has a place for each digest.
+    ///
+    /// If the memory is not that of a log, it is some digests.
+    pub fn write_inclusion_path(&self, index: usize, path: &mut [[u8; 32]])
+        requires inside { index < self.now.size }
+        requires room { length path.old ≡ inclusion_length self.now.size index }
+        ensures { (leaves : List Digest) → self.now.size ≤ length leaves
+            → Keeps leaves self.now.digests → all_of (inclusion_path node_of (sha256 []) index
+            (take self.now.size leaves)) ≡ Ok path.new }
+    {
+        match inclusion_path_of(&mut KeptNodes::new(), self, self.size(), index, path) {
+            Ok(()) => {}
+            Err(never) => match never {},
+        }
+    }
+
     /// Returns the path of an index, from the leaf up: PATH(index, D[0:size]).
     ///
     /// If the memory is not that of a log, it is some digests.
@@ -131,8 +150,31 @@ impl<'a> Kept<'a> {
             (λ digests. all_of (inclusion_path node_of (sha256 []) index
             (take self.now.size leaves)) ≡ Ok digests.items) }
     {
-        let path = Vec::new(alloc);
-        inclusion_path_of(&mut KeptPaths::new(), self, self.size(), index, path)
+        let length = inclusion_length(self.size as u64, index as u64) as usize;
+        let mut path = vec![in alloc; [0u8; 32]; length]?;
+        self.write_inclusion_path(index, &mut path);
+        Ok(path)
+    }
+
+    /// Writes the consistency proof of an old size to `path`: PROOF(old_size, D[0:size]). It has a place for each digest, and none
+    /// where the old size is the log's.
+    ///
+    /// If the memory is not that of a log, it is some digests.
+    pub fn write_consistency_path(&self, old_size: usize, path: &mut [[u8; 32]])
+        requires some { 0 < old_size }
+        requires inside { old_size ≤ self.now.size }
+        requires room { length path.old ≡ consistency_length old_size self.now.size }
+        ensures { (leaves : List Digest) → self.now.size ≤ length leaves
+            → Keeps leaves self.now.digests → all_of (consistency_path node_of (sha256 []) old_size
+            (take self.now.size leaves)) ≡ Ok path.new }
+    {
+        if old_size == self.size() {
+            return;
+        }
+        match consistency_path_of(&mut KeptNodes::new(), self, old_size, self.size(), path) {
+            Ok(()) => {}
+            Err(never) => match never {},
+        }
     }
 
     /// Returns the consistency proof of an old size: PROOF(old_size, D[0:size]).
@@ -150,11 +192,10 @@ impl<'a> Kept<'a> {
             (λ digests. all_of (consistency_path node_of (sha256 []) old_size
             (take self.now.size leaves)) ≡ Ok digests.items) }
     {
-        let path = Vec::new(alloc);
-        if old_size == self.size() {
-            return Ok(path);
-        }
-        consistency_path_of(&mut KeptPaths::new(), self, old_size, self.size(), path)
+        let length = consistency_length(old_size as u64, self.size as u64) as usize;
+        let mut path = vec![in alloc; [0u8; 32]; length]?;
+        self.write_consistency_path(old_size, &mut path);
+        Ok(path)
     }
 }
 

@@ -11,6 +11,7 @@ pub mod kept;
 mod laying;
 pub mod log;
 pub mod nodes;
+pub mod path_lengths;
 pub mod paths;
 mod places;
 pub mod received;

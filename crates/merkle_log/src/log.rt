@@ -17,7 +17,8 @@ ghost use Rattle.merkle_log.specs.Stored.{row_at, IsStored};
 ghost use Rattle.merkle_log.specs.Verdict.{inclusion_verdict, consistency_verdict};
 
 use crate::bind::{LogBinding, log_binding_of};
-use crate::digests::copy_of;
+use crate::digests::{blank_digests, copy_of};
+use crate::path_lengths::{consistency_length, inclusion_length};
 use crate::paths::{consistency_path_of, inclusion_path_of};
 use crate::refusing::Refusing;
 use crate::rising::rows_over;
@@ -289,8 +290,10 @@ impl<D: DigestItem, T: TreeHasher<D, D>> Log<D, T> {
             (take size self.now.digests))) result }
         ensures count { IfOk result (λ counted. counted.1 ≡ beside_pairs index size) }
     {
+        let length = inclusion_length(size as u64, index as u64) as usize;
+        let mut path = blank_digests(alloc, length)?;
         let mut pairs = Refusing::new(alloc, &self.hasher);
-        let path = inclusion_path_of(&mut pairs, &self.stored, size, index, Vec::new(alloc))?;
+        inclusion_path_of(&mut pairs, &self.stored, size, index, &mut path)?;
         Ok((path, pairs.calls()))
     }
 
@@ -335,8 +338,10 @@ impl<D: DigestItem, T: TreeHasher<D, D>> Log<D, T> {
             old_size (take size self.now.digests))) result }
         ensures count { IfOk result (λ counted. counted.1 ≡ beside_pairs (old_size - 1) size) }
     {
+        let length = consistency_length(old_size as u64, size as u64) as usize;
+        let mut path = blank_digests(alloc, length)?;
         let mut pairs = Refusing::new(alloc, &self.hasher);
-        let path = consistency_path_of(&mut pairs, &self.stored, old_size, size, Vec::new(alloc))?;
+        consistency_path_of(&mut pairs, &self.stored, old_size, size, &mut path)?;
         Ok((path, pairs.calls()))
     }
 

@@ -1,8 +1,7 @@
 //! What hashes the pairs of a log: by a hash that may refuse, with refusals of its own, or by one that refuses nothing.
 
-ghost use Rattle.std.specs.Prelude.{◌≡◌, ◌+◌, ◌++◌, ◌∷◌, ℕ, [], min, Ok};
+ghost use Rattle.std.specs.Prelude.{◌≡◌, ◌+◌, ℕ, min, Ok};
 ghost use Rattle.ark_base.specs.declared.error.Error.{Error};
-ghost use Rattle.ark_paths.specs.Rows.{digests_of};
 ghost use Rattle.merkle_log.specs.Given.{GivesBy};
 ghost use Rattle.merkle_log.specs.Log.{NodeHash};
 
@@ -32,12 +31,4 @@ pub trait NodeHasher<D: DigestItem> {
     /// Returns a copy of a digest.
     fn copied(&self, digest: &D) -> Result<D, Self::Refusal>
         ensures { GivesBy why D.numbers (Ok (D.numbers digest.now)) result };
-}
-
-/// Hashes pairs of digests, and makes paths of digests.
-pub trait PathHasher<D: DigestItem>: NodeHasher<D> {
-    /// Puts a copy of a digest behind a path.
-    fn put(&self, path: &mut Vec<D>, digest: &D) -> Result<(), Self::Refusal>
-        ensures { GivesBy Self.why (λ _. digests_of D.numbers path.new)
-            (Ok (digests_of D.numbers path.old ++ (D.numbers digest.now ∷ []))) result };
 }

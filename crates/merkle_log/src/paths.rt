@@ -1,16 +1,17 @@
-//! The proofs that are read of a log's rows.
+//! The proofs that are read of a log's rows. They are written to a list of the caller's, which has as many places as they have
+//! digests.
 
-ghost use Rattle.std.specs.Prelude.{◌≡◌, ◌<◌, ◌≤◌, ◌+◌, ◌-◌, ◌/◌, ◌^◌, ◌++◌, ℕ, [], length, take, true, IfOk, OnOk, Ok};
+ghost use Rattle.std.specs.Prelude.{◌≡◌, ◌==◌, ◌<◌, ◌≤◌, ◌+◌, ◌-◌, ◌/◌, ◌^◌, ◌++◌, ℕ, if◌then◌else◌, length, map, take, true, IfOk, OnOk, Ok};
 ghost use Rattle.ark_paths.specs.Pair.{Digest};
-ghost use Rattle.ark_paths.specs.Rows.{digests_of};
 ghost use Rattle.merkle_log.specs.Asked.{Holding, IsBeside, IsLowest, IsPeak, own_count};
 ghost use Rattle.merkle_log.specs.Edge.{all_of, beside_left, beside_pairs, digest_beside, digests_beside, last_seen, HasLast, path_with, RaisesNeeded, seed_digests, Tallies};
 ghost use Rattle.merkle_log.specs.Given.{GivesBy};
 ghost use Rattle.merkle_log.specs.Log.{inclusion_path, consistency_path};
 ghost use Rattle.merkle_log.specs.Stored.{row_at, IsStored};
-ghost use Rattle.merkle_log.specs.Walk.{has_beside};
+ghost use Rattle.merkle_log.specs.Received.{consistency_length, inclusion_length};
+ghost use Rattle.merkle_log.specs.Walk.{has_beside, used_below};
 
-use crate::nodes::{NodeHasher, PathHasher};
+use crate::nodes::NodeHasher;
 use crate::rows::{Rows, last_of, raise};
 use crate::way::has_beside;
 use ark_base::serialize::DigestItem;
@@ -42,31 +43,37 @@ fn beside<'a, D: DigestItem, R: Rows<D>>(
     }
 }
 
-// Puts the digest beside an index behind a path, if one stands there.
-fn with_beside<D: DigestItem, R: Rows<D>, H: PathHasher<D>>(
+// Puts the digest beside an index at a place of a path, if one stands there, and returns the next place.
+fn put_beside<D: DigestItem, R: Rows<D>, H: NodeHasher<D>>(
     hasher: &H,
     rows: &R,
     level: usize,
     index: usize,
     last_index: usize,
     last: &Option<D>,
-    mut path: Vec<D>,
-) -> Result<Vec<D>, H::Refusal>
+    path: &mut [D],
+    at: usize,
+) -> Result<usize, H::Refusal>
     requires inside { index ≤ last_index }
     requires within { last_index ≤ length (row_at (R.stored rows.now) level) }
     requires last { index < last_index
         → HasLast (row_at (R.stored rows.now) level) last_index last.now }
     requires held { Holding (R.Holds rows.now) level
         (IsBeside index (own_count last_index last.now)) }
-    ensures { GivesBy H.why (digests_of D.numbers)
-        (Ok (digests_of D.numbers path ++ (digests_beside (row_at (R.stored rows.now) level) index
-        last_index (last_seen D.numbers (row_at (R.stored rows.now) level) last_index last.now))))
-        result }
+    requires room { has_beside index last_index ≡ true → at < length path.old }
+    ensures put { GivesBy H.why (λ next. map D.numbers (take next path.new))
+        (Ok (map D.numbers (take at path.old) ++ (digests_beside
+        (row_at (R.stored rows.now) level) index last_index
+        (last_seen D.numbers (row_at (R.stored rows.now) level) last_index last.now)))) result }
+    ensures next { IfOk result
+        (λ next. next ≡ (if has_beside index last_index then at + 1 else at)) }
+    ensures long { length path.new ≡ length path.old }
 {
     if has_beside(index as u64, last_index as u64) {
-        hasher.put(&mut path, beside(rows, level, index, last_index, last))?;
+        path[at] = hasher.copied(beside(rows, level, index, last_index, last))?;
+        return Ok(at + 1);
     }
-    Ok(path)
+    Ok(at)
 }
 
 // Raises the right edge one level, where a path still needs it.
@@ -105,17 +112,19 @@ fn raise_needed<D: DigestItem, R: Rows<D>, H: NodeHasher<D>>(
     }
 }
 
-/// Appends to `path` the digests beside the way of an index of a row from this level up. `last` is the right edge's digest where
-/// its place is incomplete. It hashes the pairs of the one subtree beside the way that may be incomplete.
-pub fn path_from<D: DigestItem, R: Rows<D>, H: PathHasher<D>>(
+/// Writes the digests beside the way of an index of a row from this level up to the places of `path` from `at` on: as many as
+/// there are. `last` is the right edge's digest where its place is incomplete. It hashes the pairs of the one subtree beside the
+/// way that may be incomplete.
+pub fn path_from<D: DigestItem, R: Rows<D>, H: NodeHasher<D>>(
     hasher: &mut H,
     rows: &R,
     mut level: usize,
     mut index: usize,
     mut last_index: usize,
     mut last: Option<D>,
-    mut path: Vec<D>,
-) -> Result<Vec<D>, H::Refusal>
+    path: &mut [D],
+    mut at: usize,
+) -> Result<(), H::Refusal>
     requires inside { index ≤ last_index }
     requires within { last_index ≤ length (row_at (R.stored rows.now) level) }
     requires last { HasLast (row_at (R.stored rows.now) level) last_index last }
@@ -124,81 +133,85 @@ pub fn path_from<D: DigestItem, R: Rows<D>, H: PathHasher<D>>(
         (IsBeside index (own_count last_index last)) }
     requires fits { level + last_index < 2 ^ 64 }
     requires counted { H.counted hasher.old ≤ level }
+    requires room { (k : ℕ) → last_index < 2 ^ k
+        → at + used_below k index last_index ≡ length path.old }
     ensures path { let numbers = D.numbers in
         let rows = row_at (R.stored rows.now) in
         let hash = H.hash hasher.old in
         let last = last_seen numbers (rows level) last_index last in
-        let sofar = digests_of numbers path in
+        let sofar = map numbers (take at path.old) in
         IsStored hash rows → (empty : Digest) (k : ℕ) → last_index < 2 ^ k
-        → let path = path_with hash empty k (rows level) index last_index last sofar in
-        GivesBy H.why (digests_of numbers) path result }
+        → let outcome = path_with hash empty k (rows level) index last_index last sofar in
+        GivesBy H.why (λ _. map numbers path.new) outcome result }
     ensures counts { OnOk result ((k : ℕ) → last_index < 2 ^ k
         → H.counted hasher.new ≡ H.counted hasher.old + beside_left k index last_index last) }
 {
     'levels: while last_index > 0 {
-        path = with_beside(hasher, rows, level, index, last_index, &last, path)?;
+        at = put_beside(hasher, rows, level, index, last_index, &last, path, at)?;
         last = raise_needed(hasher, rows, level, index, last_index, last)?;
         index /= 2;
         last_index /= 2;
         level += 1;
     }
-    Ok(path)
+    Ok(())
 }
 
-/// Returns the path of an index of the first digests: `path` is empty. It asks for complete subtrees beside the way and for
-/// those into which the digests fall.
-pub fn inclusion_path_of<D: DigestItem, R: Rows<D>, H: PathHasher<D>>(
+/// Writes the path of an index of the first digests to `path`. It asks for complete subtrees beside the way and for those into
+/// which the digests fall.
+pub fn inclusion_path_of<D: DigestItem, R: Rows<D>, H: NodeHasher<D>>(
     hasher: &mut H,
     rows: &R,
     size: usize,
     index: usize,
-    path: Vec<D>,
-) -> Result<Vec<D>, H::Refusal>
-    requires empty { path.items ≡ [] }
+    path: &mut [D],
+) -> Result<(), H::Refusal>
     requires inside { index < size }
     requires within { size ≤ length (row_at (R.stored rows.now) 0) }
     requires peaks { Holding (R.Holds rows.now) 0 (IsPeak size) }
     requires beside { Holding (R.Holds rows.now) 0 (IsBeside index size) }
     requires none { H.counted hasher.old ≡ 0 }
+    requires room { length path.old ≡ inclusion_length size index }
     ensures path { IsStored (H.hash hasher.old) (row_at (R.stored rows.now)) → (empty : Digest)
-        → GivesBy H.why (digests_of D.numbers)
+        → GivesBy H.why (λ _. map D.numbers path.new)
         (all_of (inclusion_path (H.hash hasher.old) empty index
         (take size (row_at (R.stored rows.now) 0)))) result }
     ensures counts { OnOk result (H.counted hasher.new ≡ beside_pairs index size) }
 {
-    path_from(hasher, rows, 0, index, size - 1, None, path)
+    path_from(hasher, rows, 0, index, size - 1, None, path, 0)
 }
 
-// Returns a path with the digest at an index of a row, unless that is the row's first.
-fn seed_path<D: DigestItem, R: Rows<D>, H: PathHasher<D>>(
+// Puts the digest at an index of a row first in a path, unless that is the row's first, and returns the next place.
+fn put_seed<D: DigestItem, R: Rows<D>, H: NodeHasher<D>>(
     hasher: &H,
     rows: &R,
     level: usize,
     index: usize,
-    mut path: Vec<D>,
-) -> Result<Vec<D>, H::Refusal>
-    requires empty { path.items ≡ [] }
+    path: &mut [D],
+) -> Result<usize, H::Refusal>
     requires inside { index < length (row_at (R.stored rows.now) level) }
     requires held { R.Holds rows.now level index }
-    ensures { GivesBy H.why (digests_of D.numbers)
+    requires room { 0 < index → 0 < length path.old }
+    ensures put { GivesBy H.why (λ next. map D.numbers (take next path.new))
         (Ok (seed_digests (row_at (R.stored rows.now) level) index)) result }
+    ensures next { IfOk result (λ next. next ≡ (if index == 0 then 0 else 1)) }
+    ensures long { length path.new ≡ length path.old }
 {
-    if index > 0 {
-        hasher.put(&mut path, rows.at(level, index))?;
+    if index == 0 {
+        return Ok(0);
     }
-    Ok(path)
+    path[0] = hasher.copied(rows.at(level, index))?;
+    Ok(1)
 }
 
-/// Returns the consistency proof of fewer of the first digests, one at least: `path` is empty. It asks as the path of the last
-/// of the fewer ones does, and for the lowest of the subtrees into which these fall; it hashes as many pairs.
-pub fn consistency_path_of<D: DigestItem, R: Rows<D>, H: PathHasher<D>>(
+/// Writes the consistency proof of fewer of the first digests, one at least, to `path`. It asks as the path of the last of the
+/// fewer ones does, and for the lowest of the subtrees into which these fall; it hashes as many pairs.
+pub fn consistency_path_of<D: DigestItem, R: Rows<D>, H: NodeHasher<D>>(
     hasher: &mut H,
     rows: &R,
     old_size: usize,
     size: usize,
-    path: Vec<D>,
-) -> Result<Vec<D>, H::Refusal>
-    requires empty { path.items ≡ [] }
+    path: &mut [D],
+) -> Result<(), H::Refusal>
     requires some { 0 < old_size }
     requires inside { old_size < size }
     requires within { size ≤ length (row_at (R.stored rows.now) 0) }
@@ -206,8 +219,9 @@ pub fn consistency_path_of<D: DigestItem, R: Rows<D>, H: PathHasher<D>>(
     requires beside { Holding (R.Holds rows.now) 0 (IsBeside (old_size - 1) size) }
     requires lowest { Holding (R.Holds rows.now) 0 (IsLowest old_size) }
     requires none { H.counted hasher.old ≡ 0 }
+    requires room { length path.old ≡ consistency_length old_size size }
     ensures path { IsStored (H.hash hasher.old) (row_at (R.stored rows.now)) → (empty : Digest)
-        → GivesBy H.why (digests_of D.numbers)
+        → GivesBy H.why (λ _. map D.numbers path.new)
         (all_of (consistency_path (H.hash hasher.old) empty old_size
         (take size (row_at (R.stored rows.now) 0)))) result }
     ensures counts { OnOk result (H.counted hasher.new ≡ beside_pairs (old_size - 1) size) }
@@ -222,6 +236,6 @@ pub fn consistency_path_of<D: DigestItem, R: Rows<D>, H: PathHasher<D>>(
         last_index /= 2;
         level += 1;
     }
-    let path = seed_path(hasher, rows, level, index, path)?;
-    path_from(hasher, rows, level, index, last_index, last, path)
+    let at = put_seed(hasher, rows, level, index, path)?;
+    path_from(hasher, rows, level, index, last_index, last, path, at)
 }

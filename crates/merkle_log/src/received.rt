@@ -1,65 +1,18 @@
 //! Client-side checks of proofs that come as bytes: their digests alone, from the leaf up, as the structures of RFC 9162 have
 //! them.
 
-ghost use Rattle.std.specs.Prelude.{◌≡◌, ◌<◌, ◌≤◌, ◌+◌, ◌-◌, ◌^◌, ℕ, true, List, map, IfOk};
+ghost use Rattle.std.specs.Prelude.{◌≡◌, true, map, IfOk};
 ghost use Rattle.ark_base.specs.Outcome.{Answers, AnswersBy};
 ghost use Rattle.ark_paths.specs.Rows.{digests_of};
-ghost use Rattle.merkle_log.specs.Received.{digests_in, inclusion_length, consistency_length, length_from, received_inclusion, received_consistency, ShowsLogLeaf, ShowsFront};
-ghost use Rattle.merkle_log.specs.Walk.{used_below};
+ghost use Rattle.merkle_log.specs.Received.{digests_in, inclusion_length, consistency_length, received_inclusion, received_consistency, ShowsLogLeaf, ShowsFront};
 
 use crate::consistency::verify_consistency;
 use crate::inclusion::verify_inclusion;
-use crate::way::has_beside;
+use crate::path_lengths::{consistency_length, inclusion_length};
 use ark_base::error::{Error, SerializationError};
 use ark_base::serialize::DigestItem;
 use ark_paths::hasher::TreeHasher;
 use std::alloc::Global;
-
-// Returns how many digests stand beside the way from an index of a row with this last index.
-fn count_beside(mut index: u64, mut last: u64) -> u64
-    requires { index ≤ last }
-    ensures count { (k : ℕ) → last < 2 ^ k → result ≡ used_below k index last }
-    ensures most { result ≤ last }
-{
-    let mut used = 0;
-    'levels: while last > 0 {
-        if has_beside(index, last) {
-            used += 1;
-        }
-        index /= 2;
-        last /= 2;
-    }
-    used
-}
-
-// Returns how many digests a consistency proof has.
-fn count_from(mut index: u64, mut last: u64) -> u64
-    requires inside { index < last }
-    requires fits { last + 1 < 2 ^ 64 }
-    ensures { (k : ℕ) → last < 2 ^ k → result ≡ length_from k index last }
-{
-    'complete: while index % 2 == 1 {
-        index /= 2;
-        last /= 2;
-    }
-    let beside = count_beside(index, last);
-    if index == 0 {
-        return beside;
-    }
-    1 + beside
-}
-
-// Returns how many digests the consistency proof of an old size has.
-fn consistency_count(old_size: u64, new_size: u64) -> u64
-    requires some { 0 < old_size }
-    requires inside { old_size ≤ new_size }
-    ensures { result ≡ consistency_length old_size new_size }
-{
-    if old_size == new_size {
-        return 0;
-    }
-    count_from(old_size - 1, new_size - 1)
-}
 
 /// Reads so many digests and nothing else.
 ///
@@ -102,7 +55,7 @@ pub fn verify_inclusion_bytes<D: DigestItem, T: TreeHasher<D, D>>(
     if index >= size {
         return Err(Error::SerializationError(SerializationError::InvalidData));
     }
-    let path = read_digests(alloc, bytes, count_beside(index, size - 1))?;
+    let path = read_digests(alloc, bytes, inclusion_length(size, index))?;
     verify_inclusion(alloc, hasher, root, size, index, leaf, &path)
 }
 
@@ -134,6 +87,6 @@ pub fn verify_consistency_bytes<D: DigestItem, T: TreeHasher<D, D>>(
     if old_size == 0 || new_size < old_size {
         return Err(Error::SerializationError(SerializationError::InvalidData));
     }
-    let path = read_digests(alloc, bytes, consistency_count(old_size, new_size))?;
+    let path = read_digests(alloc, bytes, consistency_length(old_size, new_size))?;
     verify_consistency(alloc, hasher, old_size, old_root, new_size, new_root, &path)
 }

@@ -2,7 +2,7 @@
 
 ghost use Rattle.std.specs.Prelude.{◌≡◌};
 
-use crate::nodes::{NodeHasher, PathHasher};
+use crate::nodes::NodeHasher;
 use ark_base::error::Error;
 use ark_base::serialize::{DigestItem, Duplicate};
 use ark_paths::hasher::TreeHasher;
@@ -53,12 +53,5 @@ impl<'a, D: DigestItem, T: TreeHasher<D, D>> NodeHasher<D> for Refusing<'a, T> {
 
     fn copied(&self, digest: &D) -> Result<D, Error> {
         Ok(digest.duplicate(self.alloc)?)
-    }
-}
-
-impl<'a, D: DigestItem, T: TreeHasher<D, D>> PathHasher<D> for Refusing<'a, T> {
-    fn put(&self, path: &mut Vec<D>, digest: &D) -> Result<(), Error> {
-        path.push(digest.duplicate(self.alloc)?)?;
-        Ok(())
     }
 }

@@ -1,24 +1,64 @@
 -- What is given of a kept log.
-use Rattle.std.proofs.Common.{suc, ◌≡◌, ℕ, ◌+◌, ◌<◌, ◌≤◌, List, [], ◌∷◌, length, map, take, drop, nat_lt, Bool, true, false, if◌then◌else◌, Option, Some, None, Result, Ok, arith, refl, ap, sym, ◌∙◌}
-use Rattle.std.proofs.lemmas.Bool.{le-ltb, lt-ltb}
+use Rattle.std.proofs.Common.{suc, ◌≡◌, ℕ, ◌+◌, ◌^◌, ◌<◌, ◌≤◌, List, [], ◌∷◌, length, map, take, drop, nat_lt, Bool, true, false, if◌then◌else◌, Option, Some, None, Result, Ok, ℤ, arith, refl, ap, sym, ◌∙◌, inl, inr}
+use Rattle.std.proofs.lemmas.Bool.{cases_lt, le-ltb, lt-ltb}
 use Rattle.std.proofs.lemmas.List.{length-map}
+use Rattle.std.specs.List.{flat_map}
 use Rattle.std.specs.Option.{option_map}
+use Rattle.ark_base.specs.Digits.{itself}
+use Rattle.ark_base.specs.Outcome.{Outcome}
 use Rattle.ark_base.specs.Laws.Steps.{done_injective}
 use Rattle.ark_paths.specs.Pair.{Digest}
 use Rattle.ark_trees.specs.Rfc6962.{entry_hash}
 use Rattle.merkle_log.specs.Kept.{has_front}
 use Rattle.merkle_log.specs.Stored.{stored_count}
+use Rattle.merkle_log.specs.Received.{consistency_length, inclusion_length}
 use Rattle.merkle_log.proofs.Positions.{count-rises}
-use Rattle.paxidore_c.specs.Answer.{CallGivesBy, leaves_in, results_of}
+use Rattle.merkle_log.proofs.Rooms.{consistency-most, inclusion-most}
+use Rattle.paxidore_c.specs.Answer.{Hands, leaves_in, results_of}
 use Rattle.paxidore_c.specs.Cut.{parts_by}
-use Rattle.paxidore_c.specs.KeptLog.{appended, if_inside, more_count, takes}
+use Rattle.paxidore_c.specs.KeptLog.{appended, bytes_of_digests, if_inside, if_older, more_count, takes}
 use Rattle.paxidore_c.specs.declared.refused.Refused.{Refused}
 
-pub given-inside : {A : Type 0} (view : A → List ℕ) (size index : ℕ) (kept : List Digest) (bytes : List ℕ)
-    (result : Result A Refused) → has_front size (length kept) ≡ true → index < size
-    → CallGivesBy view (Ok bytes) result
-    → CallGivesBy view (if_inside size index kept (Ok bytes)) result
-given-inside view size index kept bytes result stands below given = rw (stands, lt-ltb index size below) given
+-- ---- proofs
+
+front-fits : (size count : ℕ) → has_front size count ≡ true → size < 2 ^ 63
+front-fits size count stands = elim (cases_lt size (2 ^ 63)) [
+  | inl less ↦ less
+  | inr past ↦
+      let none : has_front size count ≡ false = rw (le-ltb size (2 ^ 63) past) refl in
+      absurd cc
+]
+
+-- A proof has at most 64 digests.
+pub inclusion-fits : (size index kept count : ℕ) → has_front size kept ≡ true → index < size
+    → count ≡ inclusion_length size index → count ≤ 64
+inclusion-fits size index kept count stands inside is =
+    omega (arith, is, inclusion-most size index inside (front-fits size kept stands))
+
+pub consistency-fits : (old_size size kept count : ℕ) → has_front size kept ≡ true → 0 < old_size → old_size ≤ size
+    → count ≡ consistency_length old_size size → count ≤ 64
+consistency-fits old_size size kept count stands some older is =
+    omega (arith, is, consistency-most old_size size some older (front-fits size kept stands))
+
+-- the bytes of digests that are given
+pub bytes-given : (given : Outcome (List Digest)) (digests : List Digest) → given ≡ Ok digests
+    → bytes_of_digests given ≡ Ok (flat_map itself digests)
+bytes-given given digests is = ap bytes_of_digests is
+
+-- what is handed over, told in another way
+pub hands-given : {given outcome : Result (List ℕ) Refused} {before after : List ℕ} {count_before count_after : ℕ}
+    {code told : ℤ} → outcome ≡ given → told ≡ code → Hands given before after count_before count_after code
+    → Hands outcome before after count_before count_after told
+hands-given is told_is hands = rw (is, told_is) hands
+
+pub all-inside : (size index : ℕ) (kept : List Digest) (bytes : Result (List ℕ) Refused)
+    → has_front size (length kept) ≡ true → index < size → if_inside size index kept bytes ≡ bytes
+all-inside size index kept bytes stands below = rw (stands, lt-ltb index size below) refl
+
+pub all-older : (old_size size : ℕ) (kept : List Digest) (bytes : Result (List ℕ) Refused)
+    → has_front size (length kept) ≡ true → 0 < old_size → old_size ≤ size → if_older old_size size kept bytes ≡ bytes
+all-older old_size size kept bytes stands some older =
+    rw (stands, lt-ltb 0 old_size some, le-ltb size old_size older) refl
 
 -- ---- growth
 

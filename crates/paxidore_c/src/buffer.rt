@@ -1,8 +1,11 @@
 //! Bytes for a caller's buffer.
 
-ghost use Rattle.std.specs.Prelude.{◌≡◌, ℕ, List, Result};
-ghost use Rattle.paxidore_c.specs.Answer.{CallGivesBy, Hands};
+ghost use Rattle.std.specs.Prelude.{◌≡◌, ◌≢◌, ℕ, List, Result, Ok};
+ghost use Rattle.std.specs.List.{flat_map};
+ghost use Rattle.ark_base.specs.Digits.{itself};
+ghost use Rattle.paxidore_c.specs.Answer.{CallGivesBy, Hands, refusal_code};
 ghost use Rattle.paxidore_c.specs.declared.refused.Refused.{Refused};
+ghost use Rattle.paxidore_c.specs.declared.refused.Refused.TheVariants.{Memory};
 
 use crate::refused::Refused;
 
@@ -22,4 +25,20 @@ pub fn hand_over(bytes: Result<Vec<u8>, Refused>, buffer: &mut [u8], count: &mut
         }
         Err(refused) => refused.code(),
     }
+}
+
+/// Writes digests to the front of `buffer`, one behind the other, where it has room for them, with the count of their bytes. It
+/// allocates nothing.
+pub fn hand_over_digests(digests: &[[u8; 32]], buffer: &mut [u8], count: &mut usize) -> i32
+    ensures handed { Hands (Ok (flat_map itself digests.now)) buffer.old buffer.new count.old
+        count.new result }
+    ensures no_memory { result ≢ refusal_code Memory }
+{
+    let bytes = digests.as_flattened();
+    *count = bytes.len();
+    if buffer.len() < bytes.len() {
+        return Refused::Room.code();
+    }
+    buffer[..bytes.len()].copy_from_slice(bytes);
+    0
 }

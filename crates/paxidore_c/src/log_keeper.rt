@@ -10,14 +10,14 @@ ghost use Rattle.ark_base.specs.Digits.{itself};
 ghost use Rattle.ark_paths.specs.Pair.{Digest};
 ghost use Rattle.ark_trees.specs.Rfc6962.{entry_hash, node_of};
 ghost use Rattle.merkle_log.specs.Kept.{front, has_front, Keeps};
-ghost use Rattle.merkle_log.specs.Received.{ShowsLogLeaf, inclusion_length};
+ghost use Rattle.merkle_log.specs.Received.{ShowsLogLeaf, consistency_length, inclusion_length};
 ghost use Rattle.merkle_log.specs.Stored.{row_at, stored_count};
 ghost use Rattle.paxidore_c.specs.Answer.{GivesCode, CallGivesBy, Hands, done_code, refusal_code, verdict_code};
 ghost use Rattle.paxidore_c.specs.KeptLog.{appended, consistency_bytes, digest_hashes, digest_shown, if_inside, if_kept, if_older, inclusion_bytes, kept_code, log_root, more_count, takes};
 ghost use Rattle.paxidore_c.specs.LogProofs.{proof_digests};
-ghost use Rattle.paxidore_c.specs.declared.refused.Refused.TheVariants.{Room, Size};
+ghost use Rattle.paxidore_c.specs.declared.refused.Refused.TheVariants.{Memory, Room, Size};
 
-use crate::buffer::hand_over;
+use crate::buffer::hand_over_digests;
 use crate::leaves::digests_of_leaves;
 use crate::refused::{Refused, verdict_code};
 use ark_base::error::Error;
@@ -25,6 +25,7 @@ use ark_base::serialize::CanonicalItem;
 use ark_paths::hasher::TreeHasher;
 use ark_trees::LogHasher;
 use merkle_log::kept::{Kept, is_size, stored_count};
+use merkle_log::path_lengths::{consistency_length, inclusion_length};
 use merkle_log::verify_inclusion_bytes;
 use std::alloc::Global;
 
@@ -66,36 +67,33 @@ pub(crate) fn bytes_of_path(alloc: Global, digests: &[[u8; 32]]) -> Result<Vec<u
     Ok(bytes)
 }
 
-// The bytes of the path of an index.
-fn inclusion_of(
-    alloc: Global,
-    kept: &[[u8; 32]],
-    size: usize,
+// Writes the bytes of the path of an index, by way of its digests.
+fn hand_over_inclusion(
+    kept: &Kept,
     index: usize,
-) -> Result<Vec<u8>, Refused>
+    digests: &mut [[u8; 32]],
+    path: &mut [u8],
+    path_len: &mut usize,
+) -> i32
+    requires inside { index < kept.now.size }
+    requires room { length digests.old ≡ inclusion_length kept.now.size index }
+    ensures path { (leaves : List Digest) → kept.now.size ≤ length leaves
+        → Keeps leaves kept.now.digests → Hands (inclusion_bytes kept.now.size index leaves)
+        path.old path.new path_len.old path_len.new result }
     ensures given { (bytes : List ℕ)
-        × CallGivesBy (λ bytes. bytes.items) (if_inside size index kept.now (Ok bytes)) result }
-    ensures path { (leaves : List Digest) → size ≤ length leaves → Keeps leaves kept.now
-        → CallGivesBy (λ bytes. bytes.items)
-        (if_inside size index kept.now (inclusion_bytes size index leaves)) result }
+        × Hands (Ok bytes) path.old path.new path_len.old path_len.new result }
+    ensures no_memory { result ≢ refusal_code Memory }
 {
-    let Some(kept) = Kept::of(size, kept) else {
-        return Err(Refused::Size);
-    };
-    if index >= size {
-        return Err(Refused::Index);
-    }
-    let path = kept.inclusion_path(alloc, index)?;
-    bytes_of_path(alloc, &path)
+    kept.write_inclusion_path(index, digests);
+    hand_over_digests(digests, path, path_len)
 }
 
 /// Writes the bytes of the path of an index of the first `size` entries to the front of `path`, and their count.
 ///
-/// Answers: 0; else the first of `E_SIZE`, `E_INDEX`, `E_ROOM`, which alone writes the count that is needed; `E_MEMORY` in
-/// place of any. Any other refusal leaves both buffers as before.
+/// Answers: 0; else the first of `E_SIZE`, `E_INDEX`, `E_ROOM`, which alone writes the count that is needed. Any other refusal
+/// leaves both buffers as before.
 #[unsafe(no_mangle)]
 pub extern "C" fn paxidore_log_inclusion(
-    alloc: Global,
     path: &mut [u8],
     path_len: &mut usize,
     kept: &[[u8; 32]],
@@ -111,41 +109,48 @@ pub extern "C" fn paxidore_log_inclusion(
     ensures given { (bytes : List ℕ)
         × (Hands (if_inside size index kept.now (Ok bytes)) path.old path.new path_len.old
         path_len.new result) }
-{
-    hand_over(inclusion_of(alloc, kept, size, index), path, path_len)
-}
-
-// The bytes of the consistency proof of an old size.
-fn consistency_of(
-    alloc: Global,
-    kept: &[[u8; 32]],
-    old_size: usize,
-    size: usize,
-) -> Result<Vec<u8>, Refused>
-    ensures given { (bytes : List ℕ)
-        × CallGivesBy (λ bytes. bytes.items) (if_older old_size size kept.now (Ok bytes)) result }
-    ensures proof { (leaves : List Digest) → size ≤ length leaves → Keeps leaves kept.now
-        → CallGivesBy (λ bytes. bytes.items)
-        (if_older old_size size kept.now (consistency_bytes old_size size leaves)) result }
+    ensures no_memory { result ≢ refusal_code Memory }
 {
     let Some(kept) = Kept::of(size, kept) else {
-        return Err(Refused::Size);
+        return Refused::Size.code();
     };
-    if old_size == 0 || size < old_size {
-        return Err(Refused::Size);
+    if index >= size {
+        return Refused::Index.code();
     }
-    let path = kept.consistency_path(alloc, old_size)?;
-    bytes_of_path(alloc, &path)
+    let mut digests = [[0; 32]; 64];
+    let length = inclusion_length(size as u64, index as u64) as usize;
+    hand_over_inclusion(&kept, index, &mut digests[..length], path, path_len)
+}
+
+// Writes the bytes of the consistency proof of an old size, by way of its digests.
+fn hand_over_consistency(
+    kept: &Kept,
+    old_size: usize,
+    digests: &mut [[u8; 32]],
+    proof: &mut [u8],
+    proof_len: &mut usize,
+) -> i32
+    requires some { 0 < old_size }
+    requires inside { old_size ≤ kept.now.size }
+    requires room { length digests.old ≡ consistency_length old_size kept.now.size }
+    ensures proof { (leaves : List Digest) → kept.now.size ≤ length leaves
+        → Keeps leaves kept.now.digests → Hands (consistency_bytes old_size kept.now.size leaves)
+        proof.old proof.new proof_len.old proof_len.new result }
+    ensures given { (bytes : List ℕ)
+        × Hands (Ok bytes) proof.old proof.new proof_len.old proof_len.new result }
+    ensures no_memory { result ≢ refusal_code Memory }
+{
+    kept.write_consistency_path(old_size, digests);
+    hand_over_digests(digests, proof, proof_len)
 }
 
 /// Writes the bytes of the proof that the first `size` entries continue the first `old_size` ones to the front of `proof`, and
 /// their count.
 ///
 /// Answers: 0; else the first of `E_SIZE`, also for the old size 0 and for one above the size, and `E_ROOM`, which alone writes
-/// the count that is needed; `E_MEMORY` in place of any. Any other refusal leaves both buffers as before.
+/// the count that is needed. Any other refusal leaves both buffers as before.
 #[unsafe(no_mangle)]
 pub extern "C" fn paxidore_log_consistency(
-    alloc: Global,
     proof: &mut [u8],
     proof_len: &mut usize,
     kept: &[[u8; 32]],
@@ -161,12 +166,17 @@ pub extern "C" fn paxidore_log_consistency(
     ensures given { (bytes : List ℕ)
         × (Hands (if_older old_size size kept.now (Ok bytes)) proof.old proof.new proof_len.old
         proof_len.new result) }
+    ensures no_memory { result ≢ refusal_code Memory }
 {
-    hand_over(
-        consistency_of(alloc, kept, old_size, size),
-        proof,
-        proof_len,
-    )
+    let Some(kept) = Kept::of(size, kept) else {
+        return Refused::Size.code();
+    };
+    if old_size == 0 || size < old_size {
+        return Refused::Size.code();
+    }
+    let mut digests = [[0; 32]; 64];
+    let length = consistency_length(old_size as u64, size as u64) as usize;
+    hand_over_consistency(&kept, old_size, &mut digests[..length], proof, proof_len)
 }
 
 // How many digests stand behind the stored ones for so many leaves more; `None` where the sum is no size.

@@ -4,10 +4,9 @@ ghost use Rattle.std.specs.Prelude.{◌≡◌};
 ghost use Rattle.ark_base.specs.declared.error.Error.TheVariants.{OutOfMemory};
 ghost use Rattle.ark_trees.specs.Rfc6962.{node_hash, node_of};
 
-use crate::nodes::{NodeHasher, PathHasher};
+use crate::nodes::NodeHasher;
 use ark_crh::ArrayHash;
 use ark_trees::LogHasher;
-use std::alloc::AllocError;
 
 /// Returns the digest of a node over two others, left first.
 pub fn node(left: &[u8; 32], right: &[u8; 32]) -> [u8; 32]
@@ -51,46 +50,5 @@ impl NodeHasher<[u8; 32]> for KeptNodes {
 
     fn copied(&self, digest: &[u8; 32]) -> Result<[u8; 32], Never> {
         Ok(*digest)
-    }
-}
-
-/// Hashes nodes, counts them, and makes paths. It lacks memory for a path, and refuses nothing else.
-#[derive(Drop)]
-pub struct KeptPaths {
-    calls: usize,
-}
-
-impl KeptPaths {
-    /// Makes a hasher that was not asked yet.
-    pub fn new() -> KeptPaths
-        ensures { result.calls ≡ 0 }
-    {
-        KeptPaths { calls: 0 }
-    }
-}
-
-impl NodeHasher<[u8; 32]> for KeptPaths {
-    type Refusal = AllocError;
-
-    ghost hash = { λ _. node_of };
-
-    ghost counted = { λ own. own.calls };
-
-    ghost why = { λ _. OutOfMemory };
-
-    fn node(&mut self, left: &[u8; 32], right: &[u8; 32]) -> Result<[u8; 32], AllocError> {
-        self.calls = self.calls.saturating_add(1);
-        Ok(node(left, right))
-    }
-
-    fn copied(&self, digest: &[u8; 32]) -> Result<[u8; 32], AllocError> {
-        Ok(*digest)
-    }
-}
-
-impl PathHasher<[u8; 32]> for KeptPaths {
-    fn put(&self, path: &mut Vec<[u8; 32]>, digest: &[u8; 32]) -> Result<(), AllocError> {
-        path.push(*digest)?;
-        Ok(())
     }
 }

@@ -1,4 +1,4 @@
-use Rattle.std.proofs.Common.{◌≡◌, ◌+◌, ◌-◌, [], get_or, refl, ◌∙◌, subst, arith}
+use Rattle.std.proofs.Common.{◌≡◌, ◌+◌, ◌-◌, [], get_or, refl, sym, ◌∙◌, subst, arith}
 use Rattle.ark_base.specs.declared.error.Error.{Error}
 use Rattle.ark_base.specs.Laws.Steps.{done_injective}
 use Rattle.merkle_log.specs.Asked.{Holding, IsBeside, IsPeak, own_count}
@@ -7,6 +7,8 @@ use Rattle.merkle_log.proofs.Asking.{beside-up, lowering-end, lowering-first, lo
 use Rattle.merkle_log.proofs.Backs.{low-next, tallying-first, tallying-next}
 use Rattle.merkle_log.proofs.Givens.{given_on, known_if_ok}
 use Rattle.merkle_log.proofs.KeptRows.{has-up}
+use Rattle.merkle_log.proofs.Lengths.{leads-odd}
+use Rattle.merkle_log.proofs.Rooms.{leads-room, leads-some, leads-start}
 use Rattle.merkle_log.proofs.Seeding.{seeding-first, seeding-next, seeding-refused, seeding-even}
 use Rattle.merkle_log.proofs.paths.consistency_path_of.Goals as goal
 
@@ -23,6 +25,7 @@ complete-init g c =
       peaks = subst (λ n. Holding (g.R.Rows.Holds c.args.rows.now) 0 (IsPeak n)) one c.requires.peaks;
       beside = subst (λ n. Holding (g.R.Rows.Holds c.args.rows.now) 0 (IsBeside (c.args.old_size - 1) n)) one
           c.requires.beside;
+      leads = leads-start c.args.old_size c.args.size _ c.requires.some c.requires.inside c.requires.room;
       lowest = lowering-first c.args.old_size c.requires.some;
       at = λ stored empty. seeding-first empty stored c.args.old_size c.args.size (get_or (rows 0) (c.args.size - 1)
           []) c.requires.some c.requires.inside c.requires.within refl;
@@ -67,6 +70,7 @@ complete-preserved g c =
           at.peaks made.own;
       beside = beside-up (g.R.Rows.Holds c.args.rows.now) c.complete.level c.complete.index
           (own_count c.complete.last_index c.complete.last) _ at.beside made.own;
+      leads = leads-odd at.leads (omega arith);
       lowest = lowering-next at.lowest (omega arith) refl;
       at = λ stored empty. seeding-next empty stored (at.at stored empty) (omega arith)
           (c.complete.level + 1) refl _ (rw (at.same) at (made.raised (rw (at.same) stored)));
@@ -76,14 +80,17 @@ complete-preserved g c =
       tally = tallying-next at.tally (omega arith) _ _ (λ less. made.counts) (λ near. absurd (omega arith));
     }
 
-pub seed_path-requires-clause-inside : goal.seed_path-requires-clause-inside
-seed_path-requires-clause-inside g c = omega (arith, c.complete.invariant.under, c.complete.invariant.within)
+pub put_seed-requires-clause-inside : goal.put_seed-requires-clause-inside
+put_seed-requires-clause-inside g c = omega (arith, c.complete.invariant.under, c.complete.invariant.within)
 
-pub seed_path-requires-clause-held : goal.seed_path-requires-clause-held
-seed_path-requires-clause-held g c =
+pub put_seed-requires-clause-held : goal.put_seed-requires-clause-held
+put_seed-requires-clause-held g c =
     let zero : 0 + c.complete.level ≡ c.complete.level = omega arith in
     subst (λ level. g.R.Rows.Holds c.args.rows.now level c.complete.index) zero
     (c.requires.lowest c.complete.level c.complete.index (lowering-end c.complete.invariant.lowest (omega arith)))
+
+pub put_seed-requires-clause-room : goal.put_seed-requires-clause-room
+put_seed-requires-clause-room g c = leads-some c.complete.invariant.leads (omega arith)
 
 pub path_from-requires-clause-inside : goal.path_from-requires-clause-inside
 path_from-requires-clause-inside g c = c.complete.invariant.inside
@@ -103,10 +110,15 @@ path_from-requires-clause-beside g c = c.complete.invariant.beside
 pub path_from-requires-clause-counted : goal.path_from-requires-clause-counted
 path_from-requires-clause-counted g c = c.complete.invariant.low
 
+pub path_from-requires-clause-room : goal.path_from-requires-clause-room
+path_from-requires-clause-room g c =
+    let room = leads-room c.complete.invariant.leads (omega arith) _ c.in_ok-at.ensures.next in
+    λ k high. room k high ∙ sym c.in_ok-at.ensures.long
+
 pub returns-clause-path : goal.returns-clause-path
 returns-clause-path g c = λ stored empty.
     let seeded = seeding-even empty stored (c.complete.invariant.at stored empty) (omega arith) in
-    rw (seeded.is, done_injective {E = Error} _ _ c.in_ok-path.ensures)
+    rw (seeded.is, done_injective {E = Error} _ _ c.in_ok-at.ensures.put)
     (rw (c.complete.invariant.same) at (c.path_from.ensures.path (rw (c.complete.invariant.same) stored) empty
     seeded.levels seeded.high))
 

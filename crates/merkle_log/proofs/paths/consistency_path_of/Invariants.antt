@@ -6,6 +6,7 @@ use Rattle.merkle_log.specs.Edge.{last_seen, HasLast, all_of, beside_pairs}
 use Rattle.merkle_log.specs.Stored.{row_at, IsStored}
 use Rattle.merkle_log.proofs.Asking.{Lowering}
 use Rattle.merkle_log.proofs.Backs.{Tallying}
+use Rattle.merkle_log.proofs.Lengths.{Leads}
 use Rattle.merkle_log.proofs.Seeding.{Seeding}
 use Rattle.merkle_log.proofs.paths.consistency_path_of.Given as goal
 
@@ -22,6 +23,7 @@ invariant-complete g l =
       has : HasLast (rows l.level) l.last_index l.last;
       peaks : Holding (g.R.Rows.Holds l.rows) l.level (IsPeak (own_count l.last_index l.last));
       beside : Holding (g.R.Rows.Holds l.rows) l.level (IsBeside l.index (own_count l.last_index l.last));
+      leads : Leads l.index l.last_index (length l.path);
       lowest : Lowering l.old_size l.level l.index;
       at : IsStored hash rows → (empty : Digest) → Seeding hash rows empty l.level l.index l.last_index (Ok last)
           (all_of (consistency_path hash empty l.old_size (take l.size (rows 0))));

@@ -1,4 +1,4 @@
-use Rattle.std.proofs.Common.{◌+◌, refl, ◌∙◌, arith}
+use Rattle.std.proofs.Common.{◌+◌, ◌/◌, Ok, ap, refl, subst, sym, ◌∙◌, arith}
 use Rattle.ark_base.specs.declared.error.Error.{Error}
 use Rattle.ark_base.specs.Laws.Steps.{done_injective}
 use Rattle.merkle_log.specs.Asked.{own_count}
@@ -7,19 +7,49 @@ use Rattle.merkle_log.proofs.Backs.{low-next, tallying-next, tallying-end}
 use Rattle.merkle_log.proofs.Givens.{given_on}
 use Rattle.merkle_log.proofs.Going.{going-step, going-refused, going-end}
 use Rattle.merkle_log.proofs.KeptRows.{has-up}
+use Rattle.merkle_log.proofs.Lengths.{Counts, counts-end}
+use Rattle.merkle_log.proofs.Rooms.{counts-first, counts-next, counts-room, take-path}
 use Rattle.merkle_log.proofs.paths.path_from.Goals as goal
 
-pub with_beside-requires-clause-inside : goal.with_beside-requires-clause-inside
-with_beside-requires-clause-inside g c = c.levels.invariant.inside
+pub levels-init : goal.levels-init
+levels-init g c = record {
+  count = omega arith;
+  inside = c.requires.inside;
+  within = c.requires.within;
+  has = λ less. c.requires.last;
+  peaks = λ less. c.requires.peaks;
+  beside = c.requires.beside;
+  going = λ stored empty k high. record {
+    x = Ok _;
+    known = λ under. refl;
+    goes = record {
+      levels = k;
+      high = high;
+      within = c.requires.within;
+      inside = c.requires.inside;
+      is = refl;
+    };
+  };
+  room = counts-first c.requires.inside c.requires.room;
+  same = refl;
+  low = c.requires.counted;
+  tally = λ k high. record { levels = k; high = high; inside = c.requires.inside; is = refl };
+}
 
-pub with_beside-requires-clause-within : goal.with_beside-requires-clause-within
-with_beside-requires-clause-within g c = c.levels.invariant.within
+pub put_beside-requires-clause-inside : goal.put_beside-requires-clause-inside
+put_beside-requires-clause-inside g c = c.levels.invariant.inside
 
-pub with_beside-requires-clause-last : goal.with_beside-requires-clause-last
-with_beside-requires-clause-last g c = c.levels.invariant.has
+pub put_beside-requires-clause-within : goal.put_beside-requires-clause-within
+put_beside-requires-clause-within g c = c.levels.invariant.within
 
-pub with_beside-requires-clause-held : goal.with_beside-requires-clause-held
-with_beside-requires-clause-held g c = c.levels.invariant.beside
+pub put_beside-requires-clause-last : goal.put_beside-requires-clause-last
+put_beside-requires-clause-last g c = c.levels.invariant.has
+
+pub put_beside-requires-clause-held : goal.put_beside-requires-clause-held
+put_beside-requires-clause-held g c = c.levels.invariant.beside
+
+pub put_beside-requires-clause-room : goal.put_beside-requires-clause-room
+put_beside-requires-clause-room g c = λ beside. counts-room c.levels.invariant.room c.levels-test.true beside
 
 pub raise_needed-requires-clause-last : goal.raise_needed-requires-clause-last
 raise_needed-requires-clause-last g c = c.levels.invariant.has
@@ -55,7 +85,9 @@ levels-preserved g c =
           c.in_ok-last.last at.inside at.beside made.own made.dropped;
       going = λ stored empty k high. going-step empty stored (at.going stored empty k high) c.levels-test.true
           (c.levels.level + 1) refl _ (rw (at.same) at (made.raised (rw (at.same) stored))) _
-          (done_injective {E = Error} _ _ c.in_ok-path.ensures);
+          (done_injective {E = Error} _ _ c.in_ok-at.ensures.put);
+      room = subst (Counts (c.levels.index / 2) (c.levels.last_index / 2) c.in_ok-at.at) (sym c.in_ok-at.ensures.long)
+          (counts-next at.room c.levels-test.true c.in_ok-at.at c.in_ok-at.ensures.next);
       same = made.same ∙ at.same;
       low = low-next c.levels.index c.levels.last_index c.levels.last _ at.low made.counts made.none;
       tally = λ k high. tallying-next (at.tally k high) c.levels-test.true _ _ made.counts made.none;
@@ -64,6 +96,7 @@ levels-preserved g c =
 pub returns-clause-path : goal.returns-clause-path
 returns-clause-path g c = λ stored empty k high.
     going-end empty stored (c.levels.invariant.going stored empty k high) (omega arith)
+    ∙ ap Ok (take-path _ _ _ (counts-end c.levels.invariant.room (omega arith)))
 
 pub returns-clause-counts : goal.returns-clause-counts
 returns-clause-counts g c = λ k high. tallying-end (c.levels.invariant.tally k high) (omega arith)

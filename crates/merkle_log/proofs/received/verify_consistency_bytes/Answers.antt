@@ -7,14 +7,14 @@ use Rattle.merkle_log.proofs.received.verify_consistency_bytes.Goals as goal
 pub returns-in_err-path-clause-answer : goal.returns-in_err-path-clause-answer
 returns-in_err-path-clause-answer g c =
     passed_on _ _ c.from_residual.result c.in_err-path.field-0.0 c.from_residual.ensures.1 c.in_err-path.ensures
-    (λ refused. consistency-read _ _ _ c.consistency_count.ensures refused
+    (λ refused. consistency-read _ _ _ c.consistency_length.ensures refused
     (g.T.TreeHasher.hashes c.args.hasher.now).pair.upper
     c.args.old_size (g.D.Numbered.numbers c.args.old_root.now) c.args.new_size
     (g.D.Numbered.numbers c.args.new_root.now) (omega arith) (omega arith))
 
 pub returns-clause-answer : goal.returns-clause-answer
 returns-clause-answer g c =
-    rw (consistency-read _ _ _ c.consistency_count.ensures c.in_ok-path.ensures
+    rw (consistency-read _ _ _ c.consistency_length.ensures c.in_ok-path.ensures
     (g.T.TreeHasher.hashes c.args.hasher.now).pair.upper c.args.old_size (g.D.Numbered.numbers c.args.old_root.now)
     c.args.new_size (g.D.Numbered.numbers c.args.new_root.now) (omega arith) (omega arith))
     (rw (c.deref.ensures.value) at c.verify_consistency.ensures.answer)

@@ -1,6 +1,5 @@
 use Rattle.std.proofs.Common.{arith}
 use Rattle.ark_base.proofs.Refusals.{passed_on}
-use Rattle.merkle_log.proofs.Verdicts.{pow_above}
 use Rattle.merkle_log.proofs.Answered.{answered-bound}
 use Rattle.merkle_log.proofs.Receiving.{inclusion-read, received-leaf}
 use Rattle.merkle_log.proofs.received.verify_inclusion_bytes.Goals as goal
@@ -8,13 +7,13 @@ use Rattle.merkle_log.proofs.received.verify_inclusion_bytes.Goals as goal
 pub returns-in_err-path-clause-answer : goal.returns-in_err-path-clause-answer
 returns-in_err-path-clause-answer g c =
     passed_on _ _ c.from_residual.result c.in_err-path.field-0.0 c.from_residual.ensures.1 c.in_err-path.ensures
-    (λ refused. inclusion-read _ _ _ (c.count_beside.ensures.count c.args.size (omega (arith, pow_above c.args.size)))
+    (λ refused. inclusion-read _ _ _ c.inclusion_length.ensures
     refused (g.T.TreeHasher.hashes c.args.hasher.now) (g.D.Numbered.numbers c.args.root.now) c.args.size c.args.index
     c.args.leaf.now (omega arith))
 
 pub returns-clause-answer : goal.returns-clause-answer
 returns-clause-answer g c =
-    rw (inclusion-read _ _ _ (c.count_beside.ensures.count c.args.size (omega (arith, pow_above c.args.size)))
+    rw (inclusion-read _ _ _ c.inclusion_length.ensures
     c.in_ok-path.ensures (g.T.TreeHasher.hashes c.args.hasher.now) (g.D.Numbered.numbers c.args.root.now) c.args.size
     c.args.index c.args.leaf.now (omega arith))
     (rw (c.deref.ensures.value) at c.verify_inclusion.ensures.answer)

@@ -1,7 +1,7 @@
 use Rattle.std.proofs.Common.{◌≤◌, ◌<◌, ◌^◌, ℕ}
 use Rattle.merkle_log.specs.Received.{length_from}
 use Rattle.merkle_log.proofs.Lengths.{Leads}
-use Rattle.merkle_log.proofs.received.count_from.Given as goal
+use Rattle.merkle_log.proofs.path_lengths.count_from.Given as goal
 
 abbrev pub invariant-complete : goal.invariant-complete
 invariant-complete l = record {

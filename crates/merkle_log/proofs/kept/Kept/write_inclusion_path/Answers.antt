@@ -1,16 +1,12 @@
 use Rattle.std.proofs.Common.{[], Ok, ap, sym, ◌∙◌, arith}
 use Rattle.sha2.specs.Sha256.{sha256}
-use Rattle.ark_base.specs.declared.error.Error.TheVariants.{OutOfMemory}
-use Rattle.ark_base.specs.Digits.{itself}
-use Rattle.ark_paths.specs.Rows.{digests_of}
 use Rattle.ark_trees.specs.Rfc6962.{node_of}
 use Rattle.merkle_log.specs.Edge.{all_of}
 use Rattle.merkle_log.specs.Log.{inclusion_path}
-use Rattle.merkle_log.proofs.Givens.{given-each}
 use Rattle.merkle_log.proofs.KeptRows.{fewer-hashed, fewer-first}
 use Rattle.merkle_log.proofs.Making.{map-itself}
 use Rattle.merkle_log.proofs.Positions.{length-row_of}
-use Rattle.merkle_log.proofs.kept.Kept.inclusion_path.Goals as goal
+use Rattle.merkle_log.proofs.kept.Kept.write_inclusion_path.Goals as goal
 
 pub inclusion_path_of-requires-clause-within : goal.inclusion_path_of-requires-clause-within
 inclusion_path_of-requires-clause-within c = omega (arith, c.size.ensures.size, length-row_of c.args.self.now 0)
@@ -18,8 +14,6 @@ inclusion_path_of-requires-clause-within c = omega (arith, c.size.ensures.size, 
 pub returns : goal.returns
 returns c = λ leaves le keeps.
     let size = c.args.self.now.size in
-    given-each (λ _. OutOfMemory) (digests_of itself) _ c.inclusion_path_of.result _
-    (rw (c.size.ensures.size) at (c.inclusion_path_of.ensures.path (fewer-hashed keeps size le) (sha256 [])))
-    (λ digests is. ap (λ l. all_of (inclusion_path node_of (sha256 []) c.args.index l)) (sym (fewer-first keeps size
-    le))
-    ∙ is ∙ ap Ok (map-itself digests.items))
+    ap (λ l. all_of (inclusion_path node_of (sha256 []) c.args.index l)) (sym (fewer-first keeps size le))
+    ∙ (rw (c.size.ensures.size, c.in-Ok.is) at (c.inclusion_path_of.ensures.path (fewer-hashed keeps size le)
+    (sha256 []))) ∙ ap Ok (map-itself _)

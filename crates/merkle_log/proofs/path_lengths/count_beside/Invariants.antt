@@ -1,7 +1,7 @@
 use Rattle.std.proofs.Common.{◌+◌, ◌≤◌, ◌<◌, ◌^◌, ℕ}
 use Rattle.merkle_log.specs.Walk.{used_below}
 use Rattle.merkle_log.proofs.Lengths.{Counts}
-use Rattle.merkle_log.proofs.received.count_beside.Given as goal
+use Rattle.merkle_log.proofs.path_lengths.count_beside.Given as goal
 
 abbrev pub invariant-levels : goal.invariant-levels
 invariant-levels l = record {

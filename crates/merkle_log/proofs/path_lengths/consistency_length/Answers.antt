@@ -1,7 +1,7 @@
 use Rattle.std.proofs.Common.{◌≡◌, ◌==◌, false, arith}
 use Rattle.std.proofs.lemmas.Bool.Decides.{nat_tests}
 use Rattle.merkle_log.proofs.Verdicts.{pow_above}
-use Rattle.merkle_log.proofs.received.consistency_count.Goals as goal
+use Rattle.merkle_log.proofs.path_lengths.consistency_length.Goals as goal
 
 pub returns : goal.returns
 returns c =

@@ -1,7 +1,7 @@
 use Rattle.std.proofs.Common.{sym, ◌∙◌, arith}
 use Rattle.merkle_log.proofs.Lengths.{counts-right, counts-alone, counts-end}
-use Rattle.merkle_log.proofs.received.count_beside.Goals as goal
-use Rattle.merkle_log.proofs.received.count_beside.Goals.{then-has_beside, else-has_beside}
+use Rattle.merkle_log.proofs.path_lengths.count_beside.Goals as goal
+use Rattle.merkle_log.proofs.path_lengths.count_beside.Goals.{then-has_beside, else-has_beside}
 
 pub levels-init : goal.levels-init
 levels-init c = record {

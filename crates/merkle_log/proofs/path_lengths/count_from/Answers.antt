@@ -1,6 +1,6 @@
 use Rattle.std.proofs.Common.{refl, arith}
 use Rattle.merkle_log.proofs.Lengths.{leads-odd, leads-first, leads-later}
-use Rattle.merkle_log.proofs.received.count_from.Goals as goal
+use Rattle.merkle_log.proofs.path_lengths.count_from.Goals as goal
 
 pub complete-init : goal.complete-init
 complete-init c =
