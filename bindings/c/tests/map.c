@@ -96,7 +96,7 @@ static int is_entry(const uint8_t *digest) {
 /* The tree that shows the way of a key, and the top of what stands alone where an entry at its end is removed. */
 static size_t tree_for(uint8_t *tree, const uint8_t digest[32], size_t level, const uint8_t *key, int is_shown) {
     if (memcmp(digest, nothing, 32) == 0) {
-        tree[0] = 0;
+        tree[0] = 2;
         return 1;
     }
     const uint8_t *row = row_of(digest);
@@ -106,12 +106,11 @@ static size_t tree_for(uint8_t *tree, const uint8_t digest[32], size_t level, co
         return 33;
     }
     if (row[32] == 0) {
-        tree[0] = 1;
-        memcpy(tree + 1, row + 33, 64);
+        memcpy(tree, row + 32, 65);
         return 65;
     }
     size_t len = 1;
-    tree[0] = 2;
+    tree[0] = row[32];
     for (int side = 0; side < 2; side++) {
         int is_way = key != NULL && bit(key, level) == side;
         int is_alone = key != NULL && is_entry(row + 33 + 32 * !side);
@@ -190,7 +189,7 @@ static int refuses(int32_t wanted, size_t room, const uint8_t *of, const uint8_t
 }
 
 static void refusals(void) {
-    uint8_t keys[64], hidden[33] = {3}, out_of_place[65] = {1};
+    uint8_t keys[64], hidden[33] = {3}, out_of_place[65] = {0};
     near(keys, 3);
     near(keys + 32, 4);
     tree_len = tree_for(tree, root, 0, keys, 1);
@@ -214,7 +213,7 @@ static void refusals(void) {
     CHECK(paxidore_map_change(new_root, made, ROOM, &made_len, root, tree, tree_len, NULL, 0, NULL, 0) == PAXIDORE_OK &&
           memcmp(new_root, root, 32) == 0);
     /* an entry that is not on its key's way */
-    uint8_t fork[1 + 65 + 65] = {2};
+    uint8_t fork[1 + 65 + 65] = {1};
     memcpy(fork + 1, out_of_place, 65);
     memcpy(fork + 66, out_of_place, 65);
     CHECK(paxidore_map_root(new_root, fork, sizeof fork) == PAXIDORE_E_INVALID);
@@ -225,7 +224,7 @@ static void refusals(void) {
     CHECK(paxidore_map_prove(proof, sizeof proof, &proof_len, hidden, 33, keys) == PAXIDORE_E_HIDDEN && proof_len == 55 && proof[0] == 0x33);
     CHECK(paxidore_map_verify(root, keys, keys, NULL, 0) == PAXIDORE_E_TRUNCATED);
     /* 256 forks, one below the other, and one more */
-    memset(tree, 2, 300);
+    memset(tree, 1, 300);
     CHECK(paxidore_map_root(new_root, tree, 300) == PAXIDORE_E_INVALID);
     CHECK(paxidore_map_root(new_root, tree, 256) == PAXIDORE_E_TRUNCATED);
 }
@@ -275,7 +274,7 @@ static void damages(size_t turns) {
 int main(int argc, char **argv) {
     size_t turns = argc > 1 ? strtoul(argv[1], NULL, 10) : 20000;
     paxidore_sha256(nothing, NULL, 0);
-    const uint8_t empty[1] = {0};
+    const uint8_t empty[1] = {2};
     CHECK(paxidore_map_root(root, empty, 1) == PAXIDORE_OK && memcmp(root, nothing, 32) == 0);
     changes(1500);
     refusals();

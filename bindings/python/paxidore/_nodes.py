@@ -16,8 +16,8 @@ _Result = TypeVar("_Result")
 
 _map_root = _call("map_root", ctypes.c_int32, ctypes.c_void_p, _bytes, _size)
 
-# the bytes of a tree's parts
-_EMPTY, _ENTRY, _FORK, _HIDDEN = b"\0", b"\1", b"\2", b"\3"
+# the bytes of a tree's parts that are no nodes: a node's part begins with its own first byte, 0 of an entry, 1 of a fork
+_EMPTY, _HIDDEN = b"\2", b"\3"
 
 # what the file of a map says that it is: "PxMp", and the version of its tables
 _APPLICATION = 0x50784D70
@@ -65,6 +65,11 @@ def _has_bit(key: bytes, level: int) -> bool:
 
 def _hidden(digest: bytes) -> bytes:
     return _EMPTY if digest == _NOTHING else _HIDDEN + digest
+
+
+def _alone(node: bytes) -> bytes:
+    """The tree of a node that hides what is below it."""
+    return node if node[0] == 0 else node[:1] + _hidden(node[1:33]) + _hidden(node[33:])
 
 
 def _cleared(met: Dict[bytes, bytes], removed: "frozenset[bytes]") -> Set[bytes]:
@@ -315,11 +320,11 @@ class _Store:
                 continue
             node = met[digest] = self.node(digest)
             if node[0] == 0:
-                tree.append(_ENTRY + node[1:])
+                tree.append(node)
                 continue
             if level == 256:
                 raise DamagedMap("a way of the map has no end")
-            tree.append(_FORK)
+            tree.append(node[:1])
             left = [key for key in own if not _has_bit(key, level)]
             right = [key for key in own if _has_bit(key, level)]
             parts.append((node[33:], level + 1, right, None if right else node[1:33]))
@@ -328,7 +333,7 @@ class _Store:
         for place, digest, other in asides:
             if other in gone and digest != _NOTHING:
                 node = met[digest] = self.node(digest)
-                tree[place] = _ENTRY + node[1:] if node[0] == 0 else _FORK + _hidden(node[1:33]) + _hidden(node[33:])
+                tree[place] = _alone(node)
         return b"".join(tree), met
 
     def put(self, number: int, root: bytes, entries: int, new: Dict[bytes, bytes], old: Dict[bytes, bytes]) -> None:

@@ -8,7 +8,7 @@ from typing import Any, Callable, ContextManager, Dict, Iterable, Iterator, Mapp
 
 from ._batch import Batch, Changed, Entered
 from ._library import DIGEST_BYTES, _bytes, _call, _digest, _int, _refusal, _size, _sizes
-from ._nodes import _ENTRY, _FORK, _HIDDEN, _MOST, _NOTHING, AsKept, DamagedMap, Versions, _root_of, _Store
+from ._nodes import _MOST, _NOTHING, AsKept, DamagedMap, Versions, _alone, _root_of, _Store
 from ._turn import Turn
 
 _Result = TypeVar("_Result")
@@ -159,8 +159,7 @@ class MapVersion(Mapping[bytes, bytes]):
             if digest == _NOTHING:
                 continue
             node = self._asked(self._node, store, digest, root)
-            part = _ENTRY + node[1:] if node[0] == 0 else _FORK + _HIDDEN + node[1:33] + _HIDDEN + node[33:]
-            if _root_of(part) != digest or level > 256:
+            if _root_of(_alone(node)) != digest or level > 256:
                 raise DamagedMap("a node of the map is not the one that was stored")
             if node[0] == 0:
                 yield node[1:33], node[33:]

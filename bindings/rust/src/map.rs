@@ -129,7 +129,7 @@ fn cleared(nodes: &[(Digest, [u8; NODE])], removed: &[Digest]) -> HashSet<Digest
 #[cfg(feature = "std")]
 fn push_hidden(tree: &mut Vec<u8>, digest: &Digest) {
     if *digest == NOTHING {
-        tree.push(0);
+        tree.push(2);
     } else {
         tree.push(3);
         tree.extend_from_slice(digest);
@@ -290,11 +290,8 @@ impl Map {
         for (digest, node, other) in made {
             let is_alone = other.is_some_and(|other| gone.contains(&other));
             match node.or_else(|| self.nodes.get(&digest).filter(|_| is_alone).copied()) {
-                Some(node) if node[0] == 0 => {
-                    shown.tree.push(1);
-                    shown.tree.extend_from_slice(&node[1..]);
-                }
-                Some(_) => shown.tree.push(2),
+                Some(node) if node[0] == 0 => shown.tree.extend_from_slice(&node),
+                Some(node) => shown.tree.push(node[0]),
                 None => push_hidden(&mut shown.tree, &digest),
             }
             if let (true, Some(node)) = (is_alone, self.nodes.get(&digest)) {

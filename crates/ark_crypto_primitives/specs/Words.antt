@@ -88,10 +88,10 @@ pub use Rattle.ark_paths.specs.Tree.{HashedTree, HoldsLeaf, IsAccepted, Tree, ha
 pub use Rattle.ark_paths.specs.Tree.{tree_above, tree_of, tree_with}
 -- logs
 pub use Rattle.merkle_log.specs.Append.{HasLeaf, HasLeaves, IsWholeList, KeepsSizes, RefusesLeaves, RefusesRow, pair_count}
-pub use Rattle.merkle_log.specs.Bind.{BindsDigest, BindsFront, BindsLogLeaf, IsConsistency, IsInclusion}
+pub use Rattle.merkle_log.specs.Bind.{BindsDigest, BindsFront, BindsLogLeaf, BindsOldRoot, IsConsistency, IsInclusion}
 pub use Rattle.merkle_log.specs.Bind.{IsLeafInclusion, StandsOrPathCollides}
 pub use Rattle.merkle_log.specs.Binding.{HighestIn, IsHighest, LeafHighestIn, is_accepted, leaf_verdict_in, verdict_in}
-pub use Rattle.merkle_log.specs.Collision.{HistoriesCollide, PathCollidesAt}
+pub use Rattle.merkle_log.specs.Collision.{HistoriesCollide, PathCollidesAt, WalkCollides}
 pub use Rattle.merkle_log.specs.Edge.{all_of, root_pairs}
 pub use Rattle.merkle_log.specs.Frontier.{FrontierValue, IsFrontier, RefusesPeak, frontier_in}
 pub use Rattle.merkle_log.specs.Log.{LogValue, both_levels, consistency_path, inclusion_path, merkle_tree_hash, root_at}

@@ -66,18 +66,18 @@ module _ (bytes : List ℕ) (there : 0 < length bytes) where
   opened : (tag : ℕ) → get_or bytes 0 0 ≡ tag → bytes ≡ tag ∷ drop 1 bytes
   opened tag is = drop-cons bytes 0 0 there ∙ ap (λ (t : ℕ). t ∷ drop 1 bytes) is
 
-  pub fork-read : (level : ℕ) (rest : List ℕ) → level < 256 → get_or bytes 0 0 ≡ 2 → rest ≡ drop 1 bytes
+  pub fork-read : (level : ℕ) (rest : List ℕ) → level < 256 → get_or bytes 0 0 ≡ 1 → rest ≡ drop 1 bytes
       → tree_read (256 - level) bytes ≡ sides_read (256 - (level + 1)) rest
   fork-read level rest inside is behind =
       let fuel : 256 - level ≡ suc (256 - (level + 1)) = omega (arith, inside) in
-      ap (λ (n : ℕ). tree_read n bytes) fuel ∙ ap (tree_read (suc (256 - (level + 1)))) (opened 2 is)
+      ap (λ (n : ℕ). tree_read n bytes) fuel ∙ ap (tree_read (suc (256 - (level + 1)))) (opened 1 is)
       ∙ ap (sides_read (256 - (level + 1))) (sym behind)
 
-  pub entry-read : (depth : ℕ) (rest : List ℕ) → get_or bytes 0 0 ≡ 1 → rest ≡ drop 1 bytes
+  pub entry-read : (depth : ℕ) (rest : List ℕ) → get_or bytes 0 0 ≡ 0 → rest ≡ drop 1 bytes
       → tree_read depth bytes ≡ entry_read rest
-  entry-read depth rest is behind = ap (tree_read depth) (opened 1 is) ∙ by_depth depth ∙ ap entry_read (sym behind)
+  entry-read depth rest is behind = ap (tree_read depth) (opened 0 is) ∙ by_depth depth ∙ ap entry_read (sym behind)
     where
-      by_depth : (depth : ℕ) → tree_read depth (1 ∷ drop 1 bytes) ≡ entry_read (drop 1 bytes)
+      by_depth : (depth : ℕ) → tree_read depth (0 ∷ drop 1 bytes) ≡ entry_read (drop 1 bytes)
       by_depth zero = refl
       by_depth (suc depth) = refl
 
@@ -88,11 +88,11 @@ by_tag : (P : Found → Type 0) (tag : ℕ) (rest : List ℕ) (sides : Outcome F
     → tagged tag rest sides ≡ Ok found → P found
 by_tag P tag rest sides found nothing one two hidden e = first (tag == 0) (tag == 1) (tag == 2) (tag == 3) e
   where
-    first : (a b c d : Bool) → (if a then Ok (Empty, rest) else if b then entry_read rest else
-        if c then sides else if d then digest_read rest else Err invalid) ≡ Ok found → P found
-    first true b c d e = subst P (done_injective {E = Error} (Empty, rest) found e) nothing
-    first false true c d e = one e
-    first false false true d e = two e
+    first : (a b c d : Bool) → (if a then entry_read rest else if b then sides else
+        if c then Ok (Empty, rest) else if d then digest_read rest else Err invalid) ≡ Ok found → P found
+    first true b c d e = one e
+    first false true c d e = two e
+    first false false true d e = subst P (done_injective {E = Error} (Empty, rest) found e) nothing
     first false false false true e = hidden e
     first false false false false e = absurd cc
 
@@ -156,9 +156,9 @@ module _ where
   abbrev IsSpelled : List ℕ → Found → Type 0
   IsSpelled bytes found = bytes ≡ spelled found.0 ++ found.1
 
-  entry-spelled : (rest : List ℕ) (found : Found) → entry_read rest ≡ Ok found → IsSpelled (1 ∷ rest) found
+  entry-spelled : (rest : List ℕ) (found : Found) → entry_read rest ≡ Ok found → IsSpelled (0 ∷ rest) found
   entry-spelled rest found e = let f = entry-found rest found e in
-      ap (λ (l : List ℕ). 1 ∷ l) f.3 ∙ ap (λ (f : Found). spelled f.0 ++ f.1) f.4
+      ap (λ (l : List ℕ). 0 ∷ l) f.3 ∙ ap (λ (f : Found). spelled f.0 ++ f.1) f.4
 
   digest-spelled : (rest : List ℕ) (found : Found) → digest_read rest ≡ Ok found → IsSpelled (3 ∷ rest) found
   digest-spelled rest found e =
@@ -167,7 +167,7 @@ module _ where
       ∙ ap (λ (f : Found). spelled f.0 ++ f.1) (done_injective {E = Error} (Hidden d.0.0, d.0.1) found d.2)
 
   tagged-spelled : (tag : ℕ) (rest : List ℕ) (sides : Outcome Found) (found : Found)
-      → (sides ≡ Ok found → IsSpelled (2 ∷ rest) found) → tagged tag rest sides ≡ Ok found → IsSpelled
+      → (sides ≡ Ok found → IsSpelled (1 ∷ rest) found) → tagged tag rest sides ≡ Ok found → IsSpelled
       (tag ∷ rest) found
   tagged-spelled tag rest sides found two e = first (tag == 0) (tag == 1) (tag == 2) (tag == 3) refl refl refl refl e
     where
@@ -175,12 +175,13 @@ module _ where
       named n is p = subst (λ (t : ℕ). IsSpelled (t ∷ rest) found) (sym ((Decides-eqb tag n).0 is)) p
 
       first : (a b c d : Bool) → (tag == 0) ≡ a → (tag == 1) ≡ b → (tag == 2) ≡ c → (tag == 3) ≡ d
-          → (if a then Ok (Empty, rest) else if b then entry_read rest else
-          if c then sides else if d then digest_read rest else Err invalid) ≡ Ok found → IsSpelled (tag ∷ rest) found
-      first true b c d p q r s e = named 0 p
+          → (if a then entry_read rest else if b then sides else
+          if c then Ok (Empty, rest) else if d then digest_read rest else Err invalid) ≡ Ok found
+          → IsSpelled (tag ∷ rest) found
+      first true b c d p q r s e = named 0 p (entry-spelled rest found e)
+      first false true c d p q r s e = named 1 q (two e)
+      first false false true d p q r s e = named 2 r
           (ap (λ (f : Found). spelled f.0 ++ f.1) (done_injective {E = Error} (Empty, rest) found e))
-      first false true c d p q r s e = named 1 q (entry-spelled rest found e)
-      first false false true d p q r s e = named 2 r (two e)
       first false false false true p q r s e = named 3 s (digest-spelled rest found e)
       first false false false false p q r s e = absurd cc
 
@@ -196,7 +197,7 @@ module _ where
       (λ two.
       let l = bind_ok (tree_read depth rest) _ found two in
       let r = bind_ok (tree_read depth l.0.1) (λ right. Ok (Fork l.0.0 right.0, right.1)) found l.2 in
-      ap (λ (l : List ℕ). 2 ∷ l) (read-spelled depth rest l.0 l.1
+      ap (λ (l : List ℕ). 1 ∷ l) (read-spelled depth rest l.0 l.1
       ∙ ap (λ (b : List ℕ). spelled l.0.0 ++ b) (read-spelled depth l.0.1 r.0 r.1)
       ∙ sym (append_assoc (spelled l.0.0) (spelled r.0.0) r.0.1))
       ∙ ap (λ (f : Found). spelled f.0 ++ f.1) (done_injective {E = Error} (Fork l.0.0 r.0.0, r.0.1) found r.2)) e
@@ -231,7 +232,7 @@ read-back depth level (One entry) rest sum fits sized =
     ∙ ap (λ o. o >>= λ value. Ok (One (record { key = entry.key; value = value.0 }), value.1))
     (string-read-back entry.value rest sized.1)
   where
-    by_depth : (depth : ℕ) → tree_read depth (1 ∷ ((entry.key ++ entry.value) ++ rest)) ≡ entry_read ((entry.key ++
+    by_depth : (depth : ℕ) → tree_read depth (0 ∷ ((entry.key ++ entry.value) ++ rest)) ≡ entry_read ((entry.key ++
         entry.value) ++ rest)
     by_depth zero = refl
     by_depth (suc depth) = refl

@@ -8,11 +8,12 @@ use Rattle.ark_base.specs.declared.error.SerializationError.TheVariants.{Truncat
 use Rattle.merkle_map.specs.Map.{has_bit}
 use Rattle.merkle_map.specs.Tree.{Shape, Empty, One, Fork, Hidden, weight, IsKey, StandsAt}
 
--- A byte for what comes, then that: 0 nothing; 1 a key and its value; 2 the left side and the right one; 3 a digest.
+-- A byte for what comes, then that: 0 a key and its value and 1 the left side and the right one, as they are hashed; 2
+-- nothing; 3 a digest.
 abbrev pub spelled : Shape → List ℕ
-spelled Empty = 0 ∷ []
-spelled (One entry) = 1 ∷ (entry.key ++ entry.value)
-spelled (Fork left right) = 2 ∷ (spelled left ++ spelled right)
+spelled Empty = 2 ∷ []
+spelled (One entry) = 0 ∷ (entry.key ++ entry.value)
+spelled (Fork left right) = 1 ∷ (spelled left ++ spelled right)
 spelled (Hidden digest) = 3 ∷ digest
 
 -- ---- reading
@@ -45,8 +46,8 @@ digest_read bytes = string_read bytes >>= λ digest. Ok (Hidden digest.0, digest
 
 -- what comes by its byte, where the sides of a fork are read so
 abbrev pub tagged : ℕ → List ℕ → Outcome (Shape × List ℕ) → Outcome (Shape × List ℕ)
-tagged tag rest sides = if tag == 0 then Ok (Empty, rest) else if tag == 1 then entry_read rest else
-    if tag == 2 then sides else if tag == 3 then digest_read rest else Err invalid
+tagged tag rest sides = if tag == 0 then entry_read rest else if tag == 1 then sides else
+    if tag == 2 then Ok (Empty, rest) else if tag == 3 then digest_read rest else Err invalid
 
 -- A tree and the bytes behind it, or the first fault from the left; forks may stand one below the other so often.
 abbrev pub tree_read : ℕ → List ℕ → Outcome (Shape × List ℕ)

@@ -44,17 +44,17 @@ pub fn write_part(part: &Part<[u8; 32]>, dest: &mut Vec<u8>) -> Result<(), Error
 {
     match part {
         Part::Empty => {
-            dest.push(0)?;
+            dest.push(2)?;
             Ok(())
         }
         Part::One { entry } => {
-            dest.push(1)?;
+            dest.push(0)?;
             push_string(&entry.key, dest)?;
             push_string(&entry.value, dest)?;
             Ok(())
         }
         Part::Fork { sides } => {
-            dest.push(2)?;
+            dest.push(1)?;
             write_part(&sides.left, dest)?;
             write_part(&sides.right, dest)?;
             Ok(())
@@ -124,14 +124,13 @@ fn read_part(alloc: Global, bytes: &[u8], level: usize) -> Result<(Part<[u8; 32]
     }
     let rest = from_index(bytes, 1);
     match bytes[0] {
-        0 => Ok((Part::Empty, 1)),
-        1 => {
+        0 => {
             let key = read_string(rest)?;
             let value = read_string(from_index(rest, 32))?;
             let tree = entry_tree(alloc, key, value)?;
             Ok((tree, 65))
         }
-        2 => {
+        1 => {
             if level == 256 {
                 return Err(invalid());
             }
@@ -140,6 +139,7 @@ fn read_part(alloc: Global, bytes: &[u8], level: usize) -> Result<(Part<[u8; 32]
             let tree = fork(alloc, left, right)?;
             Ok((tree, 1 + on_left + on_right))
         }
+        2 => Ok((Part::Empty, 1)),
         3 => {
             let digest = read_string(rest)?;
             let tree = behind(alloc, digest)?;
