@@ -397,7 +397,7 @@ class InFile(unittest.TestCase):
                         self.assertEqual(log.append(entries[5:]), 12)
                     finally:
                         os.fsync = real
-                    self.assertEqual(count[0], 9)
+                    self.assertEqual(count[0], 10)
                 else:
                     self.assertRaises(ValueError, log.root)
                     self.assertRaises(ValueError, log.append, entries[5:])

@@ -2,6 +2,12 @@ pub mod Overlaid
 pub mod Spotted
 pub mod Runs
 pub mod Writes
+pub mod Points
+pub mod Halves
+pub mod Laying
+pub mod LaidWrites
+pub mod Laid
+pub mod Losing
 pub mod Mixing
 pub mod Tearing
 pub mod Stages

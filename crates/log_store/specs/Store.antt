@@ -5,7 +5,7 @@ use Rattle.ark_paths.specs.Pair.{Digest}
 use Rattle.merkle_log.specs.Stored.{stored_count}
 use Rattle.log_file.specs.Append.{HasBehind}
 use Rattle.log_file.specs.LogFile.{file_end, file_head, next_slot, slot, slot_front, stored_in, title, written, IsLogFile}
-use Rattle.log_store.specs.Disk.{IsMixed}
+use Rattle.log_store.specs.Disk.{IsMixed, Torn}
 
 -- the head of a log of no entries
 abbrev pub new_head : List ℕ
@@ -15,6 +15,12 @@ new_head = title ++ (slot 0 (sha256 []) ++ slot 0 (sha256 []))
 pub record IsPartOf (head file : List ℕ) : Type 0 where
   pub short : length file ≤ 96
   pub bytes : (n : ℕ) → n < length file → (get_or file n 0 ≡ get_or head n 0) ⊎ (get_or file n 0 ≡ 0)
+
+-- A head was being written, one slot after the other: the title and the first slot were cut short, or these stand
+-- there and the second slot was cut short.
+abbrev pub TornInTurn : List ℕ → List ℕ → List ℕ → Type 0
+TornInTurn head old left = Torn 0 (take 64 head) old left
+    ⊎ Torn 64 (take 32 (drop 64 head)) (written old 0 (take 64 head)) left
 
 -- A crash leaves a file that has no byte.
 abbrev pub IsEmpty : (List ℕ → Type 0) → Type 0

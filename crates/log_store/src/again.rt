@@ -3,16 +3,16 @@
 ghost use Rattle.std.specs.Prelude.{◌≡◌, ◌≤◌, ℕ, List, length, take, OnOk};
 ghost use Rattle.ark_paths.specs.Pair.{Digest};
 ghost use Rattle.log_store.specs.Disk.{After, LeavesOnly, Torn};
-ghost use Rattle.log_store.specs.Store.{BeginsAs, IsDurable, IsDurableBehind};
+ghost use Rattle.log_store.specs.Store.{BeginsAs, IsDurable, IsDurableBehind, TornInTurn};
 ghost use Rattle.log_file.specs.LogFile.{IsLogFile};
 
 use crate::disk::Disk;
-use crate::steps::write_durably;
+use crate::steps::write_head;
 use log_file::head::START;
 
 /// Writes the head of a log's file again, as it is read, and syncs. Once it returned, a crash leaves the log that is read, also
 /// where a sync of its head was refused before, of whichever process: digests are durable before a head says their size.
-/// Nothing that is read changes.
+/// Nothing that is read changes. The second slot is written once the first one is on the disk.
 ///
 /// The error is the disk's refusal.
 pub fn rewrite_head<D: Disk>(disk: &mut D) -> Result<(), D::Refusal>
@@ -27,6 +27,10 @@ pub fn rewrite_head<D: Disk>(disk: &mut D) -> Result<(), D::Refusal>
     // that are read.
     ensures any_moment { D.Obeys disk.new → LeavesOnly D.moment D.left_since disk.old disk.new
         (After (Torn 0 (take 96 (D.seen disk.old))) (D.may_leave disk.old)) }
+
+    // And that but in one of its slots: the other one is as it was before, or as it is read.
+    ensures in_turn { D.Obeys disk.new → LeavesOnly D.moment D.left_since disk.old disk.new
+        (After (TornInTurn (take 96 (D.seen disk.old))) (D.may_leave disk.old)) }
 
     // Whatever it returned, the digests are as a crash left them before.
     ensures kept { D.Obeys disk.new → (size : ℕ)
@@ -46,5 +50,5 @@ pub fn rewrite_head<D: Disk>(disk: &mut D) -> Result<(), D::Refusal>
     }
     let mut head = [0; START];
     disk.read_at(0, &mut head)?;
-    write_durably(disk, 0, &head)
+    write_head(disk, &head)
 }

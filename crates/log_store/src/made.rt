@@ -4,13 +4,13 @@ ghost use Rattle.std.specs.Prelude.{◌≡◌, ◌⊎◌, ℕ, List, [], length,
 ghost use Rattle.ark_paths.specs.Pair.{Digest};
 ghost use Rattle.log_store.specs.Disk.{After, LeavesOnly, Torn};
 ghost use Rattle.log_store.specs.Refused.{IsOfDisk};
-ghost use Rattle.log_store.specs.Store.{new_head, IsDurable, IsDurableBehind, IsDurableLog, IsEmpty, IsPartOf, IsSettled};
+ghost use Rattle.log_store.specs.Store.{new_head, IsDurable, IsDurableBehind, IsDurableLog, IsEmpty, IsPartOf, IsSettled, TornInTurn};
 ghost use Rattle.log_file.specs.LogFile.{IsLogFile};
 
 use crate::again::rewrite_head;
 use crate::disk::Disk;
 use crate::log::read_log;
-use crate::steps::write_durably;
+use crate::steps::write_head;
 use crate::stop::Stop;
 use log_file::fault::Fault;
 use log_file::head::{START, head_bytes};
@@ -115,6 +115,12 @@ pub fn make<D: Disk>(disk: &mut D) -> Result<(), Stop<D::Refusal>>
         → LeavesOnly D.moment D.left_since disk.old disk.new
         (After (Torn 0 (take 96 (D.seen disk.old))) (D.may_leave disk.old)) }
 
+    // It is mixed in one of its slots: the second one is written once the first one is on the disk.
+    ensures in_turn { D.Obeys disk.new → (leaves : List Digest)
+        → IsLogFile leaves (D.seen disk.old)
+        → LeavesOnly D.moment D.left_since disk.old disk.new
+        (After (TornInTurn (take 96 (D.seen disk.old))) (D.may_leave disk.old)) }
+
     // Of a file that has no byte it leaves no more than a part of that head; and so is what is read, whatever it returned.
     ensures left { D.Obeys disk.new → D.seen disk.old ≡ [] → IsPartOf new_head (D.seen disk.new) }
     ensures begun { D.Obeys disk.new → D.seen disk.old ≡ []
@@ -129,7 +135,7 @@ pub fn make<D: Disk>(disk: &mut D) -> Result<(), Stop<D::Refusal>>
 {
     let head = head_bytes(0, &Sha256::digest([].as_slice()));
     if is_begun(disk, &head)? {
-        return match write_durably(disk, 0, &head) {
+        return match write_head(disk, &head) {
             Ok(()) => Ok(()),
             Err(refusal) => Err(Stop::Disk(refusal)),
         };

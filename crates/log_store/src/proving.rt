@@ -23,7 +23,8 @@ use crate::spots::{Spot, Spots, read_beside, read_lowest, read_peaks_of};
 use crate::stop::Stop;
 use ark_trees::LogHasher;
 use log_file::fault::Fault;
-use merkle_log::kept::{KeptPaths, position_of};
+use merkle_log::kept::{KeptNodes, position_of};
+use merkle_log::path_lengths::{consistency_length, inclusion_length};
 use merkle_log::paths::{consistency_path_of, inclusion_path_of};
 use merkle_log::{verify_consistency, verify_inclusion_digest};
 use std::alloc::Global;
@@ -77,8 +78,12 @@ fn inclusion_over<D: Disk, W: Whole>(
         spots,
         of: PhantomData,
     };
-    let path = Vec::new(alloc);
-    Ok(inclusion_path_of(&mut KeptPaths::new(), &rows, size, index, path)?)
+    let length = inclusion_length(size as u64, index as u64) as usize;
+    let mut path = vec![in alloc; [0u8; 32]; length]?;
+    match inclusion_path_of(&mut KeptNodes::new(), &rows, size, index, &mut path) {
+        Ok(()) => Ok(path),
+        Err(never) => match never {},
+    }
 }
 
 // Returns the consistency proof of an old size of a log of which these digests were read. The disk has the list.
@@ -108,8 +113,12 @@ fn consistency_over<D: Disk, W: Whole>(
         spots,
         of: PhantomData,
     };
-    let path = Vec::new(alloc);
-    Ok(consistency_path_of(&mut KeptPaths::new(), &rows, old_size, size, path)?)
+    let length = consistency_length(old_size as u64, size as u64) as usize;
+    let mut path = vec![in alloc; [0u8; 32]; length]?;
+    match consistency_path_of(&mut KeptNodes::new(), &rows, old_size, size, &mut path) {
+        Ok(()) => Ok(path),
+        Err(never) => match never {},
+    }
 }
 
 // Reads the consistency proof of an old size of a log of this size, which has digests behind the head.

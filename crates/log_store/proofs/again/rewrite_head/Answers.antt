@@ -1,13 +1,13 @@
-use Rattle.std.proofs.Common.{◌≡◌, ◌≤◌, ◌*◌, ℕ, List, length, take, drop, inl, inr, refl, ap, sym, ◌∙◌, subst, arith}
+use Rattle.std.proofs.Common.{◌≡◌, ◌≤◌, ◌*◌, ℕ, List, length, take, inl, inr, refl, ap, sym, ◌∙◌, subst, arith}
 use Rattle.std.proofs.lemmas.Bool.{cases_lt}
-use Rattle.std.proofs.lemmas.List.{length-drop, length-take-le, take_all}
+use Rattle.std.proofs.lemmas.List.{length-take-le, take_all}
 use Rattle.merkle_log.specs.Stored.{stored_count}
 use Rattle.merkle_log.proofs.Givens.{known_if_ok}
 use Rattle.log_file.specs.LogFile.{file_end, written}
 use Rattle.log_file.proofs.Files.{known}
-use Rattle.log_file.proofs.Pieces.{behind-written, piece-before, piece-written}
+use Rattle.log_file.proofs.Pieces.{behind-written, piece-written}
 use Rattle.log_store.specs.Disk.{After, LeavesMore, LeavesOnly, Torn}
-use Rattle.log_store.specs.Store.{BeginsAs, HasDigestsOf}
+use Rattle.log_store.specs.Store.{BeginsAs, HasDigestsOf, TornInTurn}
 use Rattle.log_store.proofs.Mixing.{digests-cut, digests-then}
 use Rattle.log_store.proofs.Runs.{at_end, begun, goes_on, weaker}
 use Rattle.log_store.proofs.Stages.{begins-of}
@@ -84,22 +84,58 @@ returns-then-count-lt-START-clause-any_moment g c = λ obeys.
 
 pub returns-clause-any_moment : goal.returns-clause-any_moment
 returns-clause-any_moment g c = λ obeys.
-    let early = c.write_durably.ensures.obeys obeys in
+    let early = c.write_head.ensures.obeys obeys in
     let file = g.D.Disk.seen c.args.disk.now in
     let long : 96 ≤ length file = omega (arith, c.in_ok-count.ensures early, c.if-count-lt-START.false) in
     let is = c.in_ok-read_at.ensures early (omega (arith, long)) in
-    subst (λ part. LeavesOnly g.D.Disk.moment g.D.Disk.left_since c.args.disk.now c.write_durably.new.disk
+    subst (λ part. LeavesOnly g.D.Disk.moment g.D.Disk.left_since c.args.disk.now c.write_head.new.disk
     (After (Torn 0 part) (g.D.Disk.may_leave c.args.disk.now))) is
-    (c.write_durably.ensures.any_moment obeys (omega (arith, long)))
+    (c.write_head.ensures.any_moment obeys)
+
+-- The same, one slot after the other.
+abbrev Turns : (g : _) → Start g → List ℕ → Type 0
+Turns g a left =
+    After (TornInTurn (take 96 (g.D.Disk.seen a.args.disk.now))) (g.D.Disk.may_leave a.args.disk.now) left
+
+still-turn : (g : _) (a : Start g)
+    → LeavesOnly g.D.Disk.moment g.D.Disk.left_since a.args.disk.now a.args.disk.now (Turns g a)
+still-turn g a =
+    let part = take 64 (take 96 (g.D.Disk.seen a.args.disk.now)) in
+    begun g.D.Disk a.args.disk.now (Turns g a)
+    (λ left since. (left, g.met.D.Disk.only_now a.args.disk.now left since, inl (torn-not 0 part left left refl)))
+
+pub returns-in_err-count-clause-in_turn : goal.returns-in_err-count-clause-in_turn
+returns-in_err-count-clause-in_turn g c = λ obeys. still-turn g (goal.at.returns-in_err-count-clause-in_turn g c).Start
+
+pub returns-in_err-read_at-clause-in_turn : goal.returns-in_err-read_at-clause-in_turn
+returns-in_err-read_at-clause-in_turn g c = λ obeys. still-turn g (goal.at.returns-in_err-read_at-clause-in_turn g
+    c).Start
+
+pub returns-then-count-lt-START-clause-in_turn : goal.returns-then-count-lt-START-clause-in_turn
+returns-then-count-lt-START-clause-in_turn g c = λ obeys.
+    let a = (goal.at.returns-then-count-lt-START-clause-in_turn g c).Start in
+    let part = take 64 (take 96 (g.D.Disk.seen c.args.disk.now)) in
+    goes_on g.D.Disk c.args.disk.now c.args.disk.now c.sync.new.self (Turns g a) (still-turn g a)
+    (c.sync.ensures.time obeys)
+    (λ left now. (left, c.sync.ensures.crash obeys left now, inl (torn-not 0 part left left refl)))
+
+pub returns-clause-in_turn : goal.returns-clause-in_turn
+returns-clause-in_turn g c = λ obeys.
+    let early = c.write_head.ensures.obeys obeys in
+    let file = g.D.Disk.seen c.args.disk.now in
+    let long : 96 ≤ length file = omega (arith, c.in_ok-count.ensures early, c.if-count-lt-START.false) in
+    let is = c.in_ok-read_at.ensures early (omega (arith, long)) in
+    subst (λ part. LeavesOnly g.D.Disk.moment g.D.Disk.left_since c.args.disk.now c.write_head.new.disk
+    (After (TornInTurn part) (g.D.Disk.may_leave c.args.disk.now))) is (c.write_head.ensures.in_turn obeys)
 
 pub returns-clause-same : goal.returns-clause-same
 returns-clause-same g c = λ obeys.
-    let early = c.write_durably.ensures.obeys obeys in
+    let early = c.write_head.ensures.obeys obeys in
     let file = g.D.Disk.seen c.args.disk.now in
     let long : 96 ≤ length file = omega (arith, c.in_ok-count.ensures early, c.if-count-lt-START.false) in
     let is = c.in_ok-read_at.ensures early (omega (arith, long)) in
-    torn-itself 0 96 c.read_at.new.into file (g.D.Disk.seen c.write_durably.new.disk) (omega (arith, long))
-    (part-long file c.read_at.new.into long is) is (c.write_durably.ensures.torn obeys (omega (arith, long)))
+    torn-itself 0 96 c.read_at.new.into file (g.D.Disk.seen c.write_head.new.disk) (omega (arith, long))
+    (part-long file c.read_at.new.into long is) is (c.write_head.ensures.torn obeys)
 
 pub returns-then-count-lt-START-clause-durable : goal.returns-then-count-lt-START-clause-durable
 returns-then-count-lt-START-clause-durable g c = λ obeys leaves log kept.
@@ -108,17 +144,17 @@ returns-then-count-lt-START-clause-durable g c = λ obeys leaves log kept.
 
 pub returns-clause-durable : goal.returns-clause-durable
 returns-clause-durable g c = λ obeys leaves log kept.
-    let early = c.write_durably.ensures.obeys obeys in
+    let early = c.write_head.ensures.obeys obeys in
     let file = g.D.Disk.seen c.args.disk.now in
     let part = c.read_at.new.into in
     let long = (known leaves file log).head.long in
     let is = c.in_ok-read_at.ensures early (omega (arith, long)) in
-    known_if_ok c.write_durably.result (λ (follows : LeavesMore (λ before left. left ≡ written before 0 part)
-    (g.D.Disk.may_leave c.args.disk.now) (g.D.Disk.may_leave c.write_durably.new.disk)). λ left now.
+    known_if_ok c.write_head.result (λ (follows : LeavesMore (λ before left. left ≡ written before 0 part)
+    (g.D.Disk.may_leave c.args.disk.now) (g.D.Disk.may_leave c.write_head.new.disk)). λ left now.
     let from = follows left now in
     subst (λ f. BeginsAs (length leaves) f left) (sym (returns-clause-same g c obeys))
     (written-begins (length leaves) file part from.0 left long is (kept from.0 from.1) from.2))
-    (c.write_durably.ensures.durable obeys (omega (arith, long)))
+    (c.write_head.ensures.durable obeys)
 
 -- what a crash leaves of the digests
 digests-mixed : (size : ℕ) (file before left : List ℕ) → 96 ≤ length file → HasDigestsOf size file before
@@ -135,12 +171,12 @@ returns-then-count-lt-START-clause-kept g c = λ obeys size kept left now.
 
 pub returns-clause-kept : goal.returns-clause-kept
 returns-clause-kept g c = λ obeys size kept left now.
-    let early = c.write_durably.ensures.obeys obeys in
+    let early = c.write_head.ensures.obeys obeys in
     let file = g.D.Disk.seen c.args.disk.now in
     let long : 96 ≤ length file = omega (arith, c.in_ok-count.ensures early, c.if-count-lt-START.false) in
-    let from = at_end g.D.Disk c.args.disk.now c.write_durably.new.disk
+    let from = at_end g.D.Disk c.args.disk.now c.write_head.new.disk
     (Mixes g (goal.at.returns-clause-kept g c).Start)
-    (returns-clause-any_moment g c obeys) (g.met.D.Disk.counts_now c.write_durably.new.disk) left now in
+    (returns-clause-any_moment g c obeys) (g.met.D.Disk.counts_now c.write_head.new.disk) left now in
     subst (λ f. HasDigestsOf size f left) (sym (returns-clause-same g c obeys))
     (digests-mixed size file from.0 left long (kept from.0 from.1) from.2)
 
@@ -174,5 +210,5 @@ returns-then-count-lt-START-clause-harmless g c = λ obeys leaves log begins.
 
 pub returns-clause-harmless : goal.returns-clause-harmless
 returns-clause-harmless g c = λ obeys leaves log begins.
-    harmless g (goal.at.returns-clause-harmless g c).Start c.write_durably.new.disk (length leaves)
+    harmless g (goal.at.returns-clause-harmless g c).Start c.write_head.new.disk (length leaves)
     (known leaves (g.D.Disk.seen c.args.disk.now) log).head.long begins (returns-clause-any_moment g c obeys)

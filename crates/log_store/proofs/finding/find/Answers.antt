@@ -1,4 +1,4 @@
-use Rattle.std.proofs.Common.{◌≡◌, ◌≢◌, ◌≤◌, ◌<◌, ℕ, List, [], length, get_or, Option, Some, None, ap, sym, ◌∙◌, arith}
+use Rattle.std.proofs.Common.{◌≡◌, ◌<◌, ℕ, List, [], length, get_or, Option, Some, None, sym, ◌∙◌, arith}
 use Rattle.ark_paths.specs.Pair.{Digest}
 use Rattle.log_file.specs.LogFile.{IsLogFile}
 use Rattle.log_store.specs.Found.{IsFirst, IsFirstOf}
