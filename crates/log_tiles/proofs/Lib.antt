@@ -1,5 +1,7 @@
 mod Audited
 mod Bundled
+mod Fronts
+mod Followed
 mod Leading
 mod Rows
 mod Shown

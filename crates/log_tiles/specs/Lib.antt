@@ -1,5 +1,9 @@
 pub mod Audit
 pub mod Bundles
+pub mod Followers
 pub mod Following
+pub mod Histories
 pub mod Names
+pub mod Quorums
 pub mod Tiles
+pub mod Ways

@@ -21,8 +21,8 @@ pub fn push_entry(entry: &[u8], bundle: &mut Vec<u8>) -> Result<(), AllocError>
     Ok(())
 }
 
-// The entry at the front of bytes, and what stands behind it.
-fn first_entry(bytes: &[u8]) -> Option<(&[u8], &[u8])>
+/// Returns the entry at the front of a bundle, and what stands behind it; nothing where the bytes end before it does.
+pub fn first_entry(bytes: &[u8]) -> Option<(&[u8], &[u8])>
     ensures front { IfSome result (λ found. (length found.0.now ≤ 65535)
         × (bytes.now ≡ entry_bytes found.0.now ++ found.1.now)) }
     ensures none { IsNone result → (entry rest : List ℕ) → length entry ≤ 65535

@@ -4,17 +4,23 @@
 
 mod ahead;
 mod bundles;
+mod follower;
 mod following;
 mod growth;
 mod halving;
+mod head_file;
+mod laws;
 mod names;
 mod tile;
 mod tiled;
 mod unfollowed;
 
-pub use bundles::{LONGEST, is_bundle, push_entry};
+pub use bundles::{LONGEST, first_entry, is_bundle, push_entry};
+pub use follower::{Unmoved, follow};
 pub use following::{Head, audit, continues, prove_in_tiles};
 pub use growth::{new_tiles, row_length};
+pub use head_file::{HeadFile, HeldHead};
+pub use laws::{accepted_are_of_one_log, quorums_meet};
 pub use names::{bundle_name, tile_name};
 pub use tile::{FULL, Tile, read_tile, width_of};
 pub use tiled::{TileDisk, Tiles, Unread};

@@ -1,9 +1,9 @@
-use Rattle.std.proofs.Common.{◌≡◌, ℕ, ◌+◌, ◌≤◌, ◌∷◌, ◌++◌, [], length, get_or, drop, refl, ap, sym, ◌∙◌}
+use Rattle.std.proofs.Common.{◌+◌, ◌≤◌, ◌∷◌, ◌++◌, [], length, get_or, drop, refl, ap, sym, ◌∙◌}
 use Rattle.std.specs.List.{flat_map}
 use Rattle.std.proofs.lemmas.List.Elements.{All-push}
 use Rattle.ark_trees.specs.Rfc6962.{entry_hash}
 use Rattle.log_tiles.specs.Bundles.{entry_bytes}
-use Rattle.log_tiles.proofs.Bundled.{bundled-more, entry-same, hashed-more, next-own, nothing-left}
+use Rattle.log_tiles.proofs.Bundled.{bundled-more, entry-same, hashed-more, next-own}
 use Rattle.log_tiles.proofs.bundles.is_bundle.Goals as goal
 
 pub digests-preserved : goal.digests-preserved

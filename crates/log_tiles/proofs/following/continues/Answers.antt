@@ -1,4 +1,4 @@
-use Rattle.std.proofs.Common.{◌≡◌, inl, inr, refl, subst}
+use Rattle.std.proofs.Common.{inl, inr, refl, subst}
 use Rattle.std.proofs.lemmas.Result.{err_from_is_err_and}
 use Rattle.log_tiles.specs.Following.{IsShown}
 use Rattle.log_tiles.proofs.Shown.{shown}

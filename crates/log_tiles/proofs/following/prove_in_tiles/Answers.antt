@@ -1,4 +1,4 @@
-use Rattle.std.proofs.Common.{◌≡◌, refl}
+use Rattle.std.proofs.Common.{refl}
 use Rattle.std.proofs.lemmas.Result.{err_from_is_err_and}
 use Rattle.log_tiles.proofs.OtherLogs.{not-of, unproved}
 use Rattle.log_tiles.proofs.following.prove_in_tiles.Goals as goal

@@ -1,0 +1,26 @@
+//! What is proved of followers and witnesses over all that happens to them. Each function is one theorem: its contract states it,
+//! and its body does nothing.
+
+ghost use Rattle.std.specs.Prelude.{◌⊎◌, ℕ, List};
+ghost use Rattle.log_tiles.specs.Histories.{accepted_in, AreOfOneLog, Event, IsHistory};
+ghost use Rattle.log_tiles.specs.Quorums.{AreHonest, IsSignedBy, Meet};
+ghost use Rattle.log_tiles.specs.Ways.{IsBefore};
+ghost use Rattle.log_tiles.specs.declared.following.Head.{Head};
+
+use crate::head_file::HeadFile;
+
+/// States that of all heads that a follower ever accepted, over each step and each crash, the log of an earlier one begins that
+/// of a later one, or two different pairs with one hash are named. What a witness signs is what it accepted.
+pub fn accepted_are_of_one_log<F: HeadFile>()
+    ensures { (events : List (Event F)) (now : F)
+        → IsHistory F.holds F.may_leave F.moment F.left_since events now
+        → AreOfOneLog (accepted_in events) }
+{}
+
+/// States that two clients whose policies meet in an honest witness hold heads of one log, or two different pairs with one hash
+/// are named.
+pub fn quorums_meet()
+    ensures { (signed : ℕ → List Head) (honest : List ℕ) (p q : List (List ℕ)) (a b : Head)
+        → AreHonest signed honest → Meet honest p q
+        → IsSignedBy signed p a → IsSignedBy signed q b → IsBefore a b ⊎ IsBefore b a }
+{}
