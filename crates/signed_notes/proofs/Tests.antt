@@ -1,6 +1,6 @@
 -- Lists that grow by an element, seen by a function.
 use Rattle.std.proofs.Common.{zero, suc, ◌≡◌, ℕ, ◌<◌, Bool, true, false, ◌||◌, List, [], ◌∷◌, ◌++◌, All, length, map, take, get_or, refl, ap, sym, subst, ◌∙◌, arith}
-use Rattle.std.specs.List.{list_any}
+use Rattle.std.specs.List.{filter, list_any}
 use Rattle.signed_notes.proofs.ReadBack.{all-cons, all-nil}
 
 pub all-more : {A B : Type 0} (P : B → Type 0) (f : A → B) (xs : List A) (i : ℕ) (x : A) → i < length xs
@@ -40,3 +40,16 @@ pub map-more : {A B C : Type 0} (g : B → C) (f : A → B) (xs : List A) (i : �
 map-more g f [] i x inside is = absurd (omega arith)
 map-more g f (y ∷ xs) zero x inside is = ap (λ z. g (f z) ∷ []) (sym is)
 map-more g f (y ∷ xs) (suc i) x inside is = ap (λ rest. g (f y) ∷ rest) (map-more g f xs i x (omega arith) is)
+
+-- an item at which the test is true stays, another goes
+pub filter-keeps : {A : Type 0} (p : A → Bool) (x : A) (xs : List A) → p x ≡ true
+    → filter p (x ∷ xs) ≡ x ∷ filter p xs
+filter-keeps p x xs e = rw (e) refl
+
+pub filter-skips : {A : Type 0} (p : A → Bool) (x : A) (xs : List A) → p x ≡ false
+    → filter p (x ∷ xs) ≡ filter p xs
+filter-skips p x xs e = rw (e) refl
+
+pub nothing-long : {A : Type 0} (xs : List A) → length xs ≡ 0 → xs ≡ []
+nothing-long [] e = refl
+nothing-long (x ∷ xs) e = absurd (omega (arith, e))

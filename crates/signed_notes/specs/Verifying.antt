@@ -1,7 +1,7 @@
 -- Which signatures of a note are by known keys.
 use Rattle.std.specs.Prelude.{◌≡◌, ◌⊎◌, ℕ, ◌==◌, ◌++◌, ◌&&◌, Bool, true, false, List, [], ◌∷◌, map, All, Result, Ok, Err}
 use Rattle.std.specs.Bool.{MatchBool}
-use Rattle.std.specs.List.{list_any}
+use Rattle.std.specs.List.{filter, list_any}
 use Rattle.std.specs.Str.{bytes_eq}
 use Rattle.ark_base.specs.Outcome.{◌>>=◌}
 use Rattle.ed25519.specs.Signatures.{IsSignature, key_of, signature_of}
@@ -76,18 +76,20 @@ cosigned_by text time key = record {
   bytes = cosignature_of key.bytes time text;
 }
 
--- a note with one signature more
-abbrev pub with_signature : SignatureParts → NoteParts → NoteParts
-with_signature s note = record { text = note.text; signatures = note.signatures ++ (s ∷ []) }
+-- the signatures that name a key
+abbrev pub naming : KeyParts → List SignatureParts → List SignatureParts
+naming key signatures = filter (is_named key) signatures
 
--- the note of a checkpoint with a cosignature more
-abbrev pub cosign_read : ℕ → KeyParts → NoteParts → Result (List ℕ) Fault
-cosign_read time key note =
-    read_checkpoint note.text >>= λ _. write_note (with_signature (cosigned_by note.text time key) note)
+-- the note of a checkpoint with its log's signatures and a cosignature behind them: no other line of the note stays
+abbrev pub cosign_read : KeyParts → ℕ → KeyParts → NoteParts → Result (List ℕ) Fault
+cosign_read log time key note = read_checkpoint note.text >>= λ _. write_note (record {
+  text = note.text;
+  signatures = naming log note.signatures ++ (cosigned_by note.text time key ∷ []);
+})
 
 -- the same of bytes
-abbrev pub cosign : ℕ → KeyParts → List ℕ → Result (List ℕ) Fault
-cosign time key bytes = read_note bytes >>= cosign_read time key
+abbrev pub cosign : KeyParts → ℕ → KeyParts → List ℕ → Result (List ℕ) Fault
+cosign log time key bytes = read_note bytes >>= cosign_read log time key
 
 -- the note of a checkpoint that signers sign
 abbrev pub sign_checkpoint : CheckpointParts → List KeyParts → Result (List ℕ) Fault

@@ -1,19 +1,19 @@
 //! Cosignatures of checkpoints (C2SP tlog-cosignature).
 
-ghost use Rattle.std.specs.Prelude.{◌≡◌, ◌∷◌, ◌++◌, [], length, map, vec_items, IfOk, IsOkUnless, string_bytes};
+ghost use Rattle.std.specs.Prelude.{◌≡◌, length, map, vec_items, IfOk, IsOkUnless, string_bytes};
 ghost use Rattle.std.specs.Bool.{Decides};
 ghost use Rattle.std.specs.Int.{w64, from_be_bytes};
 ghost use Rattle.signed_notes.specs.Cosignatures.{cosigned, IsCosignature};
 ghost use Rattle.signed_notes.specs.Faults.{NoteGivesBy};
-ghost use Rattle.signed_notes.specs.Verifying.{cosign, cosign_read, cosigned_by, sign_checkpoint};
-ghost use Rattle.signed_notes.specs.Views.{checkpoint_parts, cosigner_parts, note_parts, parts, signer_parts};
+ghost use Rattle.signed_notes.specs.Verifying.{cosign, cosign_read, cosigned_by, naming, sign_checkpoint};
+ghost use Rattle.signed_notes.specs.Views.{checkpoint_parts, cosigner_parts, note_parts, parts, signer_parts, verifier_parts};
 ghost use Rattle.signed_notes.specs.declared.fault.Fault.TheVariants.{Memory};
 
 use crate::checkpoint::Checkpoint;
 use crate::fault::Fault;
-use crate::keys::{Cosigner, Signer};
+use crate::keys::{Cosigner, Signer, Verifier};
 use crate::note::{Note, Signature, read};
-use crate::verifying::sign_note;
+use crate::verifying::{is_named, sign_note};
 use crate::writing::write;
 use ed25519::{sign, verify as is_signature};
 use std::alloc::Global;
@@ -77,54 +77,63 @@ pub fn cosignature_of<'a>(
     })
 }
 
-// Signatures with a cosignature more.
-fn with_cosignature<'a>(
+// The signatures that name a key.
+fn naming<'a>(
     alloc: Global,
     signatures: Vec<Signature<'a>>,
-    cosigner: &Cosigner<'a>,
-    time: u64,
-    text: &str,
+    key: &Verifier,
 ) -> Result<Vec<Signature<'a>>, Fault>
-    ensures signatures { let more = cosigned_by text.now time (cosigner_parts cosigner.now) in
-        IfOk result (λ all. map parts all.items
-        ≡ map parts signatures.entry.items ++ (more ∷ [])) }
+    ensures named { let key = verifier_parts key.now in IfOk result (λ kept.
+        map parts kept.items ≡ naming key (map parts signatures.entry.items)) }
     ensures memory { IsOkUnless result Memory }
 {
-    let mut all = signatures;
-    all.push(cosignature_of(alloc, cosigner, time, text)?)?;
-    Ok(all)
+    let hash = key.hash();
+    let mut kept = Vec::new(alloc);
+    'signatures: for signature in signatures {
+        if is_named(key, &hash, &signature) {
+            kept.push(signature)?;
+        }
+    }
+    Ok(kept)
 }
 
-// Writes the note of a checkpoint with a cosignature more.
+// Writes the note of a checkpoint with its log's signatures and a cosignature.
 fn cosign_read<'a>(
     alloc: Global,
     note: Note<'a>,
+    log: &Verifier,
     cosigner: &Cosigner<'a>,
     time: u64,
 ) -> Result<Vec<u8>, Fault>
-    ensures { let key = cosigner_parts cosigner.now in
-        NoteGivesBy vec_items (cosign_read time key (note_parts note.entry)) result }
+    ensures { let log = verifier_parts log.now in
+        let key = cosigner_parts cosigner.now in
+        NoteGivesBy vec_items (cosign_read log time key (note_parts note.entry)) result }
 {
     let Note { text, signatures } = note;
     Checkpoint::read(alloc, text.as_bytes())?;
-    let all = with_cosignature(alloc, signatures, cosigner, time, text)?;
+    let mut all = naming(alloc, signatures, log)?;
+    all.push(cosignature_of(alloc, cosigner, time, text)?)?;
     write(alloc, text, &all)
 }
 
-/// Writes the note of a checkpoint with the cosignature of a witness behind its signatures, which are not verified: open
-/// the checkpoint first, and compare it with the one that was signed before.
+/// Writes the note of a checkpoint with its log's signatures and the cosignature of a witness behind them (C2SP
+/// tlog-witness). No other line stays, since whoever serves the note can add some. The log's signatures are not verified:
+/// open the checkpoint first, and compare it with the one that was signed before.
 ///
 /// Errors, the first that applies: those of `read`; those of `Checkpoint::read`; those of `write`. `Memory` at any time.
 pub fn cosign<'a>(
     alloc: Global,
     bytes: &'a [u8],
+    log: &Verifier,
     cosigner: &Cosigner<'a>,
     time: u64,
 ) -> Result<Vec<u8>, Fault>
-    ensures { NoteGivesBy vec_items (cosign time (cosigner_parts cosigner.now) bytes.now) result }
+    ensures { let log = verifier_parts log.now in
+        let key = cosigner_parts cosigner.now in
+        NoteGivesBy vec_items (cosign log time key bytes.now) result }
 {
     let note = read(alloc, bytes)?;
-    cosign_read(alloc, note, cosigner, time)
+    cosign_read(alloc, note, log, cosigner, time)
 }
 
 /// Signs a checkpoint by keys, in their order, and writes the note. It writes nothing where it returns an error.

@@ -18,7 +18,7 @@ use ed25519::{sign, verify as is_signature};
 use std::alloc::Global;
 
 // Whether a signature names a key.
-fn is_named(verifier: &Verifier, hash: &[u8; 4], signature: &Signature) -> bool
+pub(crate) fn is_named(verifier: &Verifier, hash: &[u8; 4], signature: &Signature) -> bool
     requires { hash_of (verifier_parts verifier.now) ≡ hash.now }
     ensures { result ≡ is_named (verifier_parts verifier.now) (parts signature.now) }
 {
