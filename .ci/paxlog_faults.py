@@ -64,12 +64,12 @@ def keeps_the_order(room, names, digests):
     ask("append", log, *names[:5])
     write(log + "-bare", file_of([]))
     for words, order in (
-        (["append", log, names[5]], "O O L (R )+W S (R )+W (R )*W S W S W S "),
-        (["append", log, "--after", 6, root(hashed).hex(), names[5]], "O O L (R )+W S (R )+W (R )*W S W S W S "),
-        (["append-lines", log, "--batch", 1, names[5]], "O O L (R )+W S R L L (R )+W (R )*W S W S W S R L "),
-        (["append", log + "-new", names[5]], "O O L (R )*W S O S (R )*W (R )*W S W S W S "),
+        (["append", log, names[5]], "O O L (R )+W S W S (R )+W (R )*W S W S W S "),
+        (["append", log, "--after", 6, root(hashed).hex(), names[5]], "O O L (R )+W S W S (R )+W (R )*W S W S W S "),
+        (["append-lines", log, "--batch", 1, names[5]], "O O L (R )+W S W S R L L (R )+W (R )*W S W S W S R L "),
+        (["append", log + "-new", names[5]], "O O L (R )*W S W S O S (R )*W (R )*W S W S W S "),
         # a log of no entries, whose name may not be on the disk
-        (["append", log + "-bare", names[5]], "O O L (R )*W S O S (R )*W (R )*W S W S W S "),
+        (["append", log + "-bare", names[5]], "O O L (R )*W S W S O S (R )*W (R )*W S W S W S "),
         (["root", log], "O (R )+"),
         (["recover", log, log + "-other"], "O L (R )*O L (R )*W (R W )*S W S O S "),
     ):
@@ -92,7 +92,7 @@ def is_cut_off(room, names, digests):
         return
     log, before, after = room + "/cut", file_of(digests[:5]), file_of(digests[:6])
     roots = {"%d %s\n" % (size, root(digests[:size]).hex()) for size in (5, 6)}
-    for call, times in (("pwrite64", 5), ("fsync", 4)):
+    for call, times in (("pwrite64", 6), ("fsync", 5)):
         for number in range(1, times + 1):
             for how in ("signal=KILL", "error=EIO", "error=ENOSPC"):
                 write(log, before)
@@ -101,7 +101,7 @@ def is_cut_off(room, names, digests):
                 status, said, why = ask("root", log)
                 check("%s %d, %s: the log is whole" % (call, number, how), status == 0 and said in roots)
                 if how != "signal=KILL":
-                    begun = (call, number) in (("pwrite64", 4), ("pwrite64", 5), ("fsync", 3), ("fsync", 4))
+                    begun = (call, number) in (("pwrite64", 5), ("pwrite64", 6), ("fsync", 4), ("fsync", 5))
                     check("%s %d, %s: the status" % (call, number, how), ran.returncode == (7 if begun else 6))
                 check("it goes on", ask("append", log, names[6])[0] == 0)
     write(log, before)
@@ -122,8 +122,8 @@ def is_not_taken_back(room, names, digests):
         return ran.returncode, ran.stdout.decode()
 
     folder = room + "/taken-back-tiles"
-    for refuses in range(1, 5):
-        size = 5 if refuses < 3 else 6
+    for refuses in range(1, 6):
+        size = 5 if refuses < 4 else 6
         after = [size, root(digests[:size]).hex()]
         for words, is_more in (
             (["checkpoint", log, "--key", key], False),
@@ -135,7 +135,7 @@ def is_not_taken_back(room, names, digests):
             for place in (log, image):
                 write(place, file_of(digests[:5]))
             status, said = on_the_disk(refuses, "append", log, names[5])
-            check("sync %d is refused" % refuses, (status, said) == (6 if refuses < 3 else 7, ""))
+            check("sync %d is refused" % refuses, (status, said) == (6 if refuses < 4 else 7, ""))
             check("the log is that before or after", ask("root", log)[1] == "%d %s\n" % tuple(after))
             if words:
                 check("%s behind sync %d" % (" ".join(words[:3]), refuses), on_the_disk(0, *words)[0] == 0)
@@ -148,23 +148,24 @@ def is_not_taken_back(room, names, digests):
             check("%s behind sync %d holds" % (" ".join(words[:3]) or "nothing", refuses), whole or before and not words)
             check("and is whole", ask("check", log) == (0, "yes\n", ""))
             shutil.rmtree(folder, ignore_errors=True)
-    # the head of a new log
-    for words in (["append", log, names[5]], ["append", log, names[5], names[6]]):
-        os.remove(log)
-        write(image, b"")
-        check("the sync of a new log is refused", on_the_disk(1, "append", log, names[0]) == (6, ""))
-        check("and it is read", ask("root", log) == (0, "0 %s\n" % root([]).hex(), ""))
-        check("an append behind it", on_the_disk(0, *words) == (0, "%d\n" % (len(words) - 2)))
-        os.rename(image, log)
-        check("and holds", ask("check", log) == (0, "yes\n", "") and ask("root", log)[1] == "%d %s\n" % (
-            len(words) - 2, root(digests[5 : len(words) + 3]).hex()
-        ))
+    # the head of a new log: behind its first slot it is no log yet, behind both it has no entries
+    for refuses, told in ((1, (3, "", "paxlog: %s: the file is no log\n" % log)), (2, (0, "0 %s\n" % root([]).hex(), ""))):
+        for words in (["append", log, names[5]], ["append", log, names[5], names[6]]):
+            os.remove(log)
+            write(image, b"")
+            check("sync %d of a new log is refused" % refuses, on_the_disk(refuses, "append", log, names[0]) == (6, ""))
+            check("and it is read", ask("root", log) == told)
+            check("an append behind it", on_the_disk(0, *words) == (0, "%d\n" % (len(words) - 2)))
+            os.rename(image, log)
+            check("and holds", ask("check", log) == (0, "yes\n", "") and ask("root", log)[1] == "%d %s\n" % (
+                len(words) - 2, root(digests[5 : len(words) + 3]).hex()
+            ))
     # the sync of one append, and then that of another
     told = {"%d %s\n" % (size, root(digests[:size]).hex()) for size in (5, 6)}
     told.add("6 %s\n" % root([*digests[:5], digests[6]]).hex())
     told.add("7 %s\n" % root(digests[:7]).hex())
-    for first in range(1, 5):
-        for second in range(1, 5):
+    for first in range(1, 6):
+        for second in range(1, 6):
             for place in (log, image):
                 write(place, file_of(digests[:5]))
             check("sync %d is refused" % first, on_the_disk(first, "append", log, names[5])[0] in (6, 7))

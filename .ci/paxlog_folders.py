@@ -1,5 +1,6 @@
 """Checks of what paxlog's folders and states are when a log is damaged, a stranger made a file, a process is at work, or the power fails.
 .ci/paxlog_tiles.py calls them."""
+import base64
 import fcntl
 import hashlib
 import os
@@ -85,7 +86,7 @@ def writes_what_lacks(room, verifier):
             os.remove(place)
             if bad is not None:
                 write(place, bad)
-            words = ("keep", site, verifier, lines) if "entries" in name else ("tiles", log, site, "--key", room + "/key")
+            words = ("keep", site, verifier, lines, "--from", 0) if "entries" in name else ("tiles", log, site, "--key", room + "/key")
             check("%s is mended" % name, ask(*words) == (0, said_of(600), "") and read(place) == data)
         now = {other: os.stat(site + "/" + other).st_mtime_ns for other in kept}
         check("and no other", all(now[other] == stamps[other] for other in kept if other != name))
@@ -278,17 +279,21 @@ def needs_a_state(room, verifier, notes):
     check("a witness without a state", ask(*words) == none and not os.path.exists(state) and not os.path.exists(state + ".lock"))
     check("a follower makes it", ask("follow", site, verifier, state) == (0, said_of(3), ""))
     check("and then it signs", ask(*words)[0] == 0)
-    before = read(state)
     grown(room, "seen", 3, 5)
     note = read(site + "/checkpoint").decode()
     text = note.split("\n\n")[0] + "\n"
     strangers = "".join(notes.Key("example.com/%d" % number, 1, hashlib.sha256(b"%d" % number).digest()).line(text) for number in range(99))
     write(site + "/checkpoint", (note + strangers).encode())
-    many = (3, "", "paxlog: %s: the note has more than 100 signatures\n" % site)
-    check("a note with 100 signatures", ask(*words) == many and read(state) == before)
     check("it is followed", ask("follow", site, verifier, room + "/seen-too") == (0, said_of(5), ""))
-    write(site + "/checkpoint", note.encode())
-    check("and then it signs again", ask(*words)[0] == 0 and read(state) == note.encode())
+    status, said, _ = ask(*words)
+    check("of a note with 100 signatures it signs the log's alone", (status, said.count("\n\u2014 "), said.startswith(note)) == (0, 2, True))
+    key = notes.Key("example.com/witness", 4, base64.b64decode(read(own).decode().split("+", 4)[4])[1:])
+    junk = "\u2014 %s %s\n" % (key.name, base64.b64encode(notes.key_hash(key.name, 4, key.public) + bytes(72)).decode())
+    write(site + "/checkpoint", (note + junk).encode())
+    status, said, _ = ask(*words)
+    check("a line of its own name that is none of its does not stay", (status, said.count("\n\u2014 "), junk in said) == (0, 2, False))
+    write(site + "/cosigned", said.encode())
+    check("and its key opens what it signed", ask("verify-checkpoint", key.verifier(), site + "/cosigned", "example.com/tiles")[0] == 0)
     shutil.rmtree(site), os.remove(log), os.remove(state)
 
 
@@ -302,8 +307,35 @@ def traced(room, words, fault=None):
     return ran.returncode, ran.stdout, [call for call in calls if "(" in call]
 
 
+def keys_are_secret(room):
+    """A key is taken of a regular file of few bytes that others neither read nor write, and one that is not written whole is removed."""
+    log, key = room + "/secret-log", room + "/secret-key"
+    write(room + "/secret-entry", b"ann")
+    ask("append", log, room + "/secret-entry")
+    check("a key is made", ask("keygen", "example.com/secret", key)[0] == 0 and os.stat(key).st_mode & 0o777 == 0o600)
+    words = ("checkpoint", log, "--key", key)
+    for mode, status in ((0o600, 0), (0o400, 0), (0o640, 0), (0o666, 3), (0o644, 3), (0o660, 3), (0o602, 3)):
+        os.chmod(key, mode)
+        said = "paxlog: %s: others may read or write the file of a key\n" % key if status else ""
+        ran = ask(*words)
+        check("a key of mode %o" % mode, (ran[0], ran[2]) == (status, said))
+    os.remove(key)
+    os.mkfifo(key, 0o600)
+    check("a pipe is no key", ask(*words) == (3, "", "paxlog: %s: it is no regular file\n" % key))
+    os.remove(key)
+    write(key, bytes(65537))
+    os.chmod(key, 0o600)
+    check("nor is a file of so many bytes", ask(*words)[0] == 3)
+    os.remove(key)
+    if shutil.which("strace"):
+        for fault in ("write:error=ENOSPC:when=1", "fsync:error=EIO:when=1", "fsync:error=EIO:when=2"):
+            status, said, _ = traced(room, ("keygen", "example.com/secret", key), fault)
+            check("a key that is not written whole is removed: " + fault, (status, said, os.path.exists(key)) == (6, b"", False))
+    os.remove(log), os.remove(room + "/secret-entry")
+
+
 def is_on_the_disk(room, verifier):
-    """What is told is on the disk before: the names of folders, and a state that was moved on by one who was killed."""
+    """What is told is on the disk before: the names of folders, and a state, also where it stays."""
     if not shutil.which("strace"):
         return
     log, site = grown(room, "synced", 0, 3)
@@ -323,7 +355,7 @@ def is_on_the_disk(room, verifier):
             _, _, calls = traced(room, words)
             out = next(at for at, call in enumerate(calls) if call.startswith("write(1<"))
             synced = [call.split("<")[1].split(">")[0] for call in calls[:out] if call.startswith("fsync(")]
-            check("%s: a state that stays is synced" % words[0], synced == [os.path.realpath(state), os.path.realpath(room)])
+            check("%s: a state that stays is written again" % words[0], synced == [os.path.realpath(state) + ".new", os.path.realpath(room)])
         for number in (1, 2):
             status, said, _ = traced(room, words, "fsync:error=EIO:when=%d" % number)
             check("%s: what is not synced is not said" % words[0], (status, said) == (6, b""))

@@ -106,7 +106,7 @@ def takes_turns(room, key):
 
 
 def syncs_and_says(room):
-    """A batch is synced three times before its size is said, and the head once more where another process wrote it since."""
+    """A batch is synced three times before its size is said, and the two slots of the head once more where another process wrote them since."""
     if not shutil.which("strace"):
         return
     log, seen = room + "/synced", room + "/trace"
@@ -120,7 +120,7 @@ def syncs_and_says(room):
     check("it ends", stream.end()[0] == 0)
     short = {"flock(": "L", "fsync(": "S", "write(": "W"}
     did = "".join(short[name] for line in read(seen).decode().splitlines() for name in short if line.startswith(name))
-    check("the order of calls: " + did, did == "LSSL" + 3 * "LSSSLW" + "LSSSSLW")
+    check("the order of calls: " + did, did == "LSSSL" + 3 * "LSSSLW" + "LSSSSSLW")
     os.remove(log), os.remove(seen)
 
 

@@ -8,6 +8,7 @@ import signal
 import subprocess
 import time
 
+import paxlog_entries
 import paxlog_folders
 from paxlog_model import DRAWS, KILLS, LARGEST, PROGRAM, ask, check, read, root, sha, write
 
@@ -185,10 +186,16 @@ def keeps_entries(room, verifier, rows):
     lines, copy = room + "/lines", room + "/kept-site"
     entries = [b"line %d" % number for number in range(size)]
     shutil.copytree(site, copy)
-    for bad in (entries[:-1], entries[:300] + [b"another"] + entries[301:], [b"x" * 65536] + entries[1:]):
+    none = (3, "", "paxlog: the lines are not the entries of the log\n")
+    long = (3, "", "paxlog: %s: an entry has more than 65,535 bytes, and cannot be kept\n" % lines)
+    for bad, said_of_it in (
+        ([b"x" * 65536] + entries[1:], long),
+        (entries[:-1], none),
+        (entries[:300] + [b"another"] + entries[301:], none),
+        (entries[:256] + [b"x" * 65536] + entries[257:], long),
+    ):
         write(lines, b"\n".join(bad) + b"\n")
-        none = (3, "", "paxlog: the lines are not the entries of the log\n")
-        check("other lines are not kept", ask("keep", copy, verifier, lines) == none)
+        check("other lines are not kept", ask("keep", copy, verifier, lines, "--from", 0) == said_of_it)
     write(lines, b"\n".join(entries) + b"\n")
     for _ in range(2):
         check("entries are kept", ask("keep", copy, verifier, lines) == (0, said, ""))
@@ -345,6 +352,8 @@ def serves_tiles(room, notes):
     paxlog_folders.works_while_others_append(room, verifier)
     paxlog_folders.needs_a_state(room, verifier, notes)
     paxlog_folders.is_on_the_disk(room, verifier)
+    paxlog_folders.keys_are_secret(room)
+    paxlog_entries.keeps_entries_of_any_bytes(room, verifier, notes)
     rows = Rows()
     is_served(room, verifier, rows)
     is_damaged(room, verifier, rows)

@@ -1,7 +1,7 @@
 //! Keys, and checkpoints that are signed and verified.
 
 use crate::file_disk::FileDisk;
-use crate::reading::file_bytes;
+use crate::reading::key_file_bytes;
 use crate::stop::{Stop, StopAt, placed};
 use crate::store::{created_secret, random_seed, to_be_signed};
 use crate::words::Name;
@@ -94,7 +94,7 @@ pub fn sign_log(
     key_file: Name,
     origin: Option<&str>,
 ) -> Result<Vec<u8>, StopAt> {
-    let text = file_bytes(rt, key_file)?;
+    let text = key_file_bytes(rt, key_file)?;
     let signer = placed(key_file.place, signed_by(rt.alloc(), &text))?;
     let mut disk = placed(log.place, to_be_signed(rt, log.text))?;
     placed(log.place, note_of(rt, &mut disk, &signer, origin))

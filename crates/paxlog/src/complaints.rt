@@ -182,8 +182,23 @@ pub fn complain(rt: &HostRuntime, words: &[Vec<u8>], stop: StopAt) -> u8 {
             REFUSED
         }
         Stop::Tile(fault) => complain_of_tile(rt, fault),
-        Stop::Entries => {
-            let _ = eprintln!(rt; "paxlog: the lines are not the entries of the log");
+        Stop::Entries(kind) => {
+            let _ = eprintln!(rt; "paxlog: the {kind} are not the entries of the log");
+            REFUSED
+        }
+        Stop::Long => {
+            begin(rt, words, place);
+            let _ = eprintln!(rt; "an entry has more than 65,535 bytes, and cannot be kept");
+            REFUSED
+        }
+        Stop::Unfinished => {
+            begin(rt, words, place);
+            let _ = eprintln!(rt; "the bytes end within an entry");
+            REFUSED
+        }
+        Stop::Behind => {
+            begin(rt, words, place);
+            let _ = eprintln!(rt; "the folder lacks entries of the log: `paxlog keep` keeps them");
             REFUSED
         }
         Stop::Shrunk => {
@@ -215,6 +230,15 @@ pub fn complain(rt: &HostRuntime, words: &[Vec<u8>], stop: StopAt) -> u8 {
         Stop::NoState => {
             begin(rt, words, place);
             let _ = eprintln!(rt; "no state: `paxlog follow` makes the first one");
+            REFUSED
+        }
+        Stop::OpenKey => {
+            begin(rt, words, place);
+            let _ = eprintln!(rt; "others may read or write the file of a key");
+            REFUSED
+        }
+        Stop::Clock => {
+            let _ = eprintln!(rt; "paxlog: the clock stands before 1970");
             REFUSED
         }
         Stop::System(error) => {

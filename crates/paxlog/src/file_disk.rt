@@ -3,32 +3,18 @@
 ghost use Rattle.std.specs.Prelude.{[]};
 
 use log_file::head::START;
-use log_store::Disk;
+use log_store::{Disk, Layout, SectorDisk, SectorRefusal, layout_of};
 use std::fs::File;
 use std::io;
 use std::os::unix::fs::FileExt;
 
 /// An open file of the operating system. Nothing is proved of it: that its four calls do what `Disk` says is trusted.
 #[derive(Drop)]
-pub struct FileDisk {
-    pub file: File,
-    /// Whether a write to a slot was begun, so that what is appended may be in the log.
-    pub is_slot_begun: bool,
-    /// Whether a write or a sync was refused.
-    pub is_refused: bool,
+struct OpenFile {
+    file: File,
 }
 
-impl FileDisk {
-    pub fn new(file: File) -> FileDisk {
-        FileDisk {
-            file,
-            is_slot_begun: false,
-            is_refused: false,
-        }
-    }
-}
-
-impl Disk for FileDisk {
+impl Disk for OpenFile {
     type Refusal = io::Error;
 
     ghost Obeys = { λ _. ⊥ };
@@ -56,21 +42,106 @@ impl Disk for FileDisk {
     }
 
     fn write_at(&mut self, at: usize, bytes: &[u8]) -> io::Result<()> {
-        if at < START && at % 32 == 0 {
-            self.is_slot_begun = true;
-        }
-        let said = self.file.write_all_at(bytes, at as u64);
-        if said.is_err() {
-            self.is_refused = true;
-        }
-        said
+        self.file.write_all_at(bytes, at as u64)
     }
 
     fn sync(&mut self) -> io::Result<()> {
-        let said = self.file.sync_all();
-        if said.is_err() {
-            self.is_refused = true;
+        self.file.sync_all()
+    }
+}
+
+// The system's refusal. Bytes that have no place are those of a head of which a sector is not read.
+fn refusal_of(refusal: SectorRefusal<io::Error>) -> io::Error {
+    match refusal {
+        SectorRefusal::Disk(error) => error,
+        SectorRefusal::Place => io::Error::from(io::ErrorKind::ReadOnlyFilesystem),
+        SectorRefusal::Short => io::Error::from(io::ErrorKind::UnexpectedEof),
+    }
+}
+
+/// The file of a log, whether its two slots lie in one sector or in two.
+#[derive(Drop)]
+pub struct FileDisk {
+    sectors: SectorDisk<OpenFile>,
+    /// Whether a write to a slot was begun, so that what is appended may be in the log.
+    pub is_slot_begun: bool,
+    /// Whether a write or a sync was refused.
+    pub is_refused: bool,
+}
+
+impl FileDisk {
+    /// Returns the disk of an open file. How the file lies is what its first sectors say now.
+    pub fn new(file: File) -> FileDisk {
+        let disk = OpenFile { file };
+        // whoever reads the head is told of a refusal
+        let layout = layout_of(&disk).unwrap_or(Layout::Dense);
+        FileDisk {
+            sectors: SectorDisk { disk, layout },
+            is_slot_begun: false,
+            is_refused: false,
         }
-        said
+    }
+
+    /// Returns the open file.
+    pub fn file(&self) -> &File {
+        &self.sectors.disk.file
+    }
+
+    // Notes a refusal.
+    fn noted(&mut self, said: Result<(), SectorRefusal<io::Error>>) -> io::Result<()> {
+        match said {
+            Ok(()) => Ok(()),
+            Err(refusal) => {
+                self.is_refused = true;
+                Err(refusal_of(refusal))
+            }
+        }
+    }
+}
+
+impl Disk for FileDisk {
+    type Refusal = io::Error;
+
+    ghost Obeys = { λ _. ⊥ };
+
+    ghost seen = { λ _. [] };
+
+    ghost may_leave = { λ _ _. ⊥ };
+
+    ghost fresh = { λ _ _ _. ⊥ };
+
+    ghost moment = { λ _. 0 };
+
+    ghost left_since = { λ _ _ _. ⊥ };
+
+    ghost counts_now = { λ _ _ _ _ now. now };
+
+    ghost only_now = { λ _ _ since. since };
+
+    fn length(&self) -> io::Result<usize> {
+        match self.sectors.length() {
+            Ok(count) => Ok(count),
+            Err(refusal) => Err(refusal_of(refusal)),
+        }
+    }
+
+    fn read_at(&self, at: usize, into: &mut [u8]) -> io::Result<()> {
+        match self.sectors.read_at(at, into) {
+            Ok(()) => Ok(()),
+            Err(refusal) => Err(refusal_of(refusal)),
+        }
+    }
+
+    fn write_at(&mut self, at: usize, bytes: &[u8]) -> io::Result<()> {
+        if at < START && at % 32 == 0 {
+            self.is_slot_begun = true;
+        }
+        let said = self.sectors.write_at(at, bytes);
+        self.noted(said)
+    }
+
+    fn sync(&mut self) -> io::Result<()> {
+        let said = self.sectors.sync();
+        self.noted(said)
     }
 }

@@ -1,21 +1,25 @@
 //! Folders of tiles that are audited, followed and witnessed.
 
-ghost use Rattle.std.specs.Prelude.{◌<◌, ◌^◌, IfOk};
+ghost use Rattle.std.specs.Prelude.{◌<◌, ◌^◌, [], IfOk};
 
 use crate::checkpoints::{opened, without_feed};
-use crate::folders::{CHECKPOINT, FolderTiles, keep_entries, kept_entries};
-use crate::reading::{file_bytes, if_found, note_bytes};
+use crate::entries::EntryReader;
+use crate::folders::{CHECKPOINT, FolderTiles};
+use crate::keeping::{keep_entries, kept_entries};
+use crate::reading::{if_found, key_file_bytes, note_bytes};
 use crate::stop::{Stop, StopAt, placed};
 use crate::store::sync_folder_of;
 use crate::words::Name;
-use crate::writing::{locked, locked_folder, remove_whole, sync_file, write_whole};
+use crate::writing::{locked, locked_folder, remove_whole, write_whole};
 use log_file::fault::Fault;
 use log_store::InclusionProof;
 use log_tiles::{
-    Head, TileDisk, Unfollowed, audit as is_sound, continues, prove_in_tiles as proof_of,
+    Head, HeadFile, TileDisk, Unfollowed, Unmoved, audit as is_sound, continues, follow as step,
+    prove_in_tiles as proof_of,
 };
 use merkle_log::kept::is_size;
 use paxlog_run::replies::{line_of, line_of_root};
+use paxlog_run::request::Entries;
 use sha2::{Digest, Sha256};
 use signed_notes::{Cosigner, Verifier, cosign};
 use std::fs::File;
@@ -131,13 +135,37 @@ fn sized(head: &Head) -> Result<usize, Stop>
     }
 }
 
-/// Keeps the entries of the log of a folder's checkpoint in the folder: the lines of a text, in their order. Returns what the checkpoint
-/// states.
-pub fn keep_in_folder(rt: &HostRuntime, from: &Source, lines: &[u8]) -> Result<Head, Stop> {
+// Locks a folder to whose checkpoint its tiles lead, and returns what that states.
+fn locked_and_stated(rt: &HostRuntime, from: &Source) -> Result<(File, Head), Stop> {
     let Published { note: _, head } = read_checkpoint(rt, from)?;
-    let _lock = locked_folder(rt, from.folder.text)?;
-    keep_entries(rt, from.folder.text, sized(&head)?, lines)?;
-    Ok(head)
+    let lock = locked_folder(rt, from.folder.text)?;
+    let disk = log_in_folder(rt, from.folder.text, &head)?;
+    match continues(rt.alloc(), &disk, &nothing(), &head) {
+        Ok(()) => Ok((lock, head)),
+        Err(why) => Err(Stop::from(why)),
+    }
+}
+
+/// Keeps entries of the log of a folder's checkpoint in the folder, in their order: those from an index on, where one is named, else all.
+/// Returns what the checkpoint states. No entry is read while another process writes the folder.
+pub fn keep_in_folder(
+    rt: &HostRuntime,
+    from: &Source,
+    words: &[Vec<u8>],
+    entries: Entries,
+    first: Option<usize>,
+) -> Result<Head, StopAt> {
+    let place = from.folder.place;
+    let (_lock, head) = placed(place, locked_and_stated(rt, from))?;
+    let size = match sized(&head) {
+        Ok(size) => size,
+        Err(why) => return Err(why.at(place)),
+    };
+    let mut reader = EntryReader::open(rt, words, entries)?;
+    match keep_entries(rt, from.folder.text, size, first, &mut reader) {
+        Ok(()) => Ok(head),
+        Err(why) => Err(why.at(reader.refused_place().unwrap_or(place))),
+    }
 }
 
 /// A proof of an entry, and the checkpoint of the log in which it is one.
@@ -238,57 +266,77 @@ fn write_note(rt: &HostRuntime, path: &str, note: &[u8]) -> Result<(), Stop> {
     sync_folder_of(rt, path)
 }
 
-/// A step of a follower whose state is locked: the checkpoint at which it was left, and that of a folder, which continues it.
+/// The file of a follower's state: the note of the checkpoint at which it was left, which the key signed. That its two calls do what
+/// `HeadFile` says is trusted.
 #[derive(Drop)]
-struct Step {
-    _lock: File,
-    old: Head,
-    new: Published,
+struct StateFile<'a> {
+    rt: &'a HostRuntime,
+    path: &'a str,
+    key: Verifier<'a>,
+    origin: Option<&'a str>,
 }
 
-// Finds the next step of a follower. Where no log has both checkpoints, the evidence is kept beside the state.
-fn next_step(
-    rt: &HostRuntime,
-    from: &Source,
-    state: Name,
-    makes_first: bool,
-) -> Result<Step, StopAt> {
-    let folder = from.folder;
-    let lock = placed(state.place, locked_state(rt, state.text, makes_first))?;
-    let new = placed(folder.place, read_checkpoint(rt, from))?;
-    let old = stated_by_note(rt, &from.key, state.text, from.origin);
-    let old = placed(state.place, old)?;
-    let disk = log_in_folder(rt, folder.text, &new.head)?;
-    match continues(rt.alloc(), &disk, &old, &new.head) {
-        Ok(()) => Ok(Step {
-            _lock: lock,
-            old,
-            new,
-        }),
-        Err(Unfollowed::Fork) => {
-            let kept = keep_evidence(rt, state.text, &disk, &old, &new);
-            placed(state.place, kept)?;
-            Err(Stop::Fork.at(folder.place))
-        }
-        Err(stop) => Err(Stop::from(stop).at(folder.place)),
+impl<'a> HeadFile for StateFile<'a> {
+    type Refusal = Stop;
+
+    ghost Obeys = { λ _. ⊥ };
+
+    ghost holds = { λ _. record { size = 0; root = [] } };
+
+    ghost may_leave = { λ _ _. ⊥ };
+
+    ghost moment = { λ _. 0 };
+
+    ghost left_since = { λ _ _ _. ⊥ };
+
+    ghost only_now = { λ _ _ since. since };
+
+    fn read(&self) -> Result<Head, Stop> {
+        stated_by_note(self.rt, &self.key, self.path, self.origin)
+    }
+
+    fn replace(&mut self, _head: &Head, note: &[u8]) -> Result<(), Stop> {
+        write_note(self.rt, self.path, note)
     }
 }
 
-// Moves a state on, and returns once it is on the disk. One that stays is synced too: who wrote it may have ended before it was.
-fn move_on(rt: &HostRuntime, state: &str, step: &Step) -> Result<(), Stop> {
-    if step.old.size != step.new.head.size || step.old.size == 0 {
-        write_note(rt, state, &step.new.note)
-    } else {
-        sync_file(rt, state)
+// Moves a state, which is locked, on to the checkpoint of a folder. Where no log has both, the evidence is kept beside the state.
+fn move_on(rt: &HostRuntime, from: &Source, state: Name, new: &Published) -> Result<(), StopAt> {
+    let folder = from.folder;
+    let disk = log_in_folder(rt, folder.text, &new.head)?;
+    let mut file = StateFile {
+        rt,
+        path: state.text,
+        key: from.key,
+        origin: from.origin,
+    };
+    match step(rt.alloc(), &disk, &mut file, &new.head, &new.note) {
+        Ok(()) => Ok(()),
+        Err(Unmoved::File(why)) => Err(why.at(state.place)),
+        Err(Unmoved::Unfollowed(old, Unfollowed::Fork)) => {
+            let kept = keep_evidence(rt, state.text, &disk, &old, new);
+            placed(state.place, kept)?;
+            Err(Stop::Fork.at(folder.place))
+        }
+        Err(Unmoved::Unfollowed(_, why)) => Err(Stop::from(why).at(folder.place)),
     }
 }
 
 /// Moves a follower's state on to the checkpoint of a folder, which continues the one that it was left at, and returns what that
 /// states. Where no log has both, the new one is kept beside the state as evidence.
 pub fn follow(rt: &HostRuntime, from: &Source, state: Name) -> Result<Head, StopAt> {
-    let step = next_step(rt, from, state, true)?;
-    placed(state.place, move_on(rt, state.text, &step))?;
-    Ok(step.new.head)
+    let _lock = placed(state.place, locked_state(rt, state.text, true))?;
+    let new = placed(from.folder.place, read_checkpoint(rt, from))?;
+    move_on(rt, from, state, &new)?;
+    Ok(new.head)
+}
+
+// The seconds since 1970. A witness states them, so a clock that stands before is refused.
+fn seconds_now(rt: &HostRuntime) -> Result<u64, Stop> {
+    match SystemTime::now(rt)?.duration_since(UNIX_EPOCH) {
+        Ok(time) => Ok(time.as_secs()),
+        Err(_) => Err(Stop::Clock),
+    }
 }
 
 /// Moves a witness's state on as `follow`, and returns the checkpoint with the witness's signature and the time. The state is there. It
@@ -299,20 +347,23 @@ pub fn witness(
     state: Name,
     key_file: Name,
 ) -> Result<Vec<u8>, StopAt> {
-    let text = file_bytes(rt, key_file)?;
+    let text = key_file_bytes(rt, key_file)?;
     let cosigner = match Cosigner::read(rt.alloc(), without_feed(&text)) {
         Ok(cosigner) => cosigner,
         Err(fault) => return Err(Stop::from(fault).at(key_file.place)),
     };
-    let step = next_step(rt, from, state, false)?;
-    let time = match SystemTime::now(rt)?.duration_since(UNIX_EPOCH) {
-        Ok(time) => time.as_secs(),
-        Err(_) => 0,
-    };
-    let note = match cosign(rt.alloc(), &step.new.note, &cosigner, time) {
+    let _lock = placed(state.place, locked_state(rt, state.text, false))?;
+    let new = placed(from.folder.place, read_checkpoint(rt, from))?;
+    let note = match cosign(
+        rt.alloc(),
+        &new.note,
+        &from.key,
+        &cosigner,
+        seconds_now(rt)?,
+    ) {
         Ok(note) => note,
         Err(fault) => return Err(Stop::from(fault).at(from.folder.place)),
     };
-    placed(state.place, move_on(rt, state.text, &step))?;
+    move_on(rt, from, state, &new)?;
     Ok(note)
 }

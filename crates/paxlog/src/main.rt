@@ -5,9 +5,12 @@ mod appending;
 mod batches;
 mod checkpoints;
 mod complaints;
+mod entries;
 mod file_disk;
 mod folders;
 mod followers;
+mod input;
+mod keeping;
 mod patience;
 mod picture;
 mod progress;
@@ -39,7 +42,7 @@ use log_file::fault::Fault;
 use log_store::InclusionProof;
 use paxlog_run::replies::line_of;
 use paxlog_run::request::{
-    Continuation, Inclusion, Keyed, Misuse, Request, Site, Waiting, Word, bytes_at,
+    Continuation, Entries, Inclusion, Keyed, Misuse, Request, Site, Waiting, Word, bytes_at,
     request_of_words, waiting_in,
 };
 use paxlog_run::verdicts::{check_consistency, check_inclusion};
@@ -270,29 +273,19 @@ fn audit_command(rt: &HostRuntime, words: &[Vec<u8>], site: &Site) -> Result<u8,
     }
 }
 
-// Keeps the entries of a log in a folder, as soon as no other process writes it, within so many seconds. The lines are read once: they
-// may be those of standard input.
+// Keeps the entries of a log in a folder.
 fn keep_command(
     rt: &HostRuntime,
     words: &[Vec<u8>],
     site: &Site,
-    file: Word,
-    seconds: usize,
+    entries: Entries,
+    first: Option<usize>,
 ) -> Result<u8, StopAt> {
     let from = source_of(rt, words, site)?;
-    let lines = bytes_of_file(rt, words, file)?;
-    let patience = Patience::new(rt, seconds)?;
-    for _turn in 0..usize::MAX {
-        match followers::keep_in_folder(rt, &from, &lines) {
-            Err(why) if why.is_busy() => {
-                if !patience.lasts(rt)? {
-                    return Err(why.at(from.folder.place));
-                }
-            }
-            kept => return say_head(rt, &placed(from.folder.place, kept)?),
-        }
-    }
-    Err(Stop::Written.at(from.folder.place))
+    say_head(
+        rt,
+        &followers::keep_in_folder(rt, &from, words, entries, first)?,
+    )
 }
 
 // Moves a follower's state on.
@@ -348,13 +341,8 @@ fn help(rt: &HostRuntime, words: &[Vec<u8>], command: Option<Word>) -> Result<u8
     }
 }
 
-// Does what is asked for, and returns the status. What is read of standard input waits for another process here, within so many seconds.
-fn carry_out(
-    rt: &HostRuntime,
-    request: Request,
-    words: &[Vec<u8>],
-    seconds: usize,
-) -> Result<u8, StopAt> {
+// Does what is asked for, and returns the status.
+fn carry_out(rt: &HostRuntime, request: Request, words: &[Vec<u8>]) -> Result<u8, StopAt> {
     match request {
         Request::Append {
             log,
@@ -402,7 +390,11 @@ fn carry_out(
         }
         Request::Tiles { log, folder, keyed } => tiles(rt, words, log, folder, &keyed),
         Request::Audit { site } => audit_command(rt, words, &site),
-        Request::Keep { site, file } => keep_command(rt, words, &site, file, seconds),
+        Request::Keep {
+            site,
+            entries,
+            from,
+        } => keep_command(rt, words, &site, entries, from),
         Request::Follow { site, state } => follow(rt, words, &site, state),
         Request::TileProof {
             site,
@@ -435,7 +427,7 @@ fn carry_out_in_turn(
 ) -> Result<u8, StopAt> {
     let patience = Patience::new(rt, seconds)?;
     for _turn in 0..usize::MAX {
-        match carry_out(rt, request, words, seconds) {
+        match carry_out(rt, request, words) {
             Err(stop) if stop.why.is_busy() => {
                 if !patience.lasts(rt)? {
                     return Err(stop);

@@ -7,7 +7,7 @@ use crate::checkpoints::{note_of, signed_by};
 use crate::file_disk::FileDisk;
 use crate::folders::{TileFault, path_of_tile};
 use crate::followers::{checkpoint_name, log_in_folder, nothing, stated_by_note};
-use crate::reading::{file_bytes, is_there};
+use crate::reading::{is_there, key_file_bytes};
 use crate::stop::{Stop, StopAt, placed};
 use crate::store::{folder_of, opened_to_sign, root_of_first, signed_when_free, sync_folder_of};
 use crate::words::Name;
@@ -222,8 +222,8 @@ fn continues_old(rt: &HostRuntime, disk: &FileDisk, old: &Head) -> Result<(), St
     Ok(())
 }
 
-// Returns the size and the root of the log of a disk.
-fn head_of(disk: &FileDisk) -> Result<Head, Stop>
+/// Returns the size and the root of the log of a disk.
+pub fn head_of(disk: &FileDisk) -> Result<Head, Stop>
     ensures fits { IfOk result (λ head. head.size < 2 ^ 63) }
     ensures near { IfOk result (λ head. file_end head.size < 2 ^ 64) }
 {
@@ -303,7 +303,7 @@ pub fn publish(
     key_file: Name,
     origin: Option<&str>,
 ) -> Result<Head, StopAt> {
-    let text = file_bytes(rt, key_file)?;
+    let text = key_file_bytes(rt, key_file)?;
     let signer = placed(key_file.place, signed_by(rt.alloc(), &text))?;
     // a file that is no log is told before the folder is made
     let disk = placed(log.place, opened_to_sign(rt, log.text))?;

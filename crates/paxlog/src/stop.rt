@@ -25,8 +25,14 @@ pub enum Stop {
     Note(signed_notes::Fault),
     /// A tile was not read.
     Tile(TileFault),
-    /// The lines are not the log's entries.
-    Entries,
+    /// Entries that are called so are not the log's.
+    Entries(&'static str),
+    /// An entry has more bytes than a bundle can have.
+    Long,
+    /// The bytes of entries end within one.
+    Unfinished,
+    /// A folder lacks entries that the log has.
+    Behind,
     /// The log has fewer entries than it had.
     Shrunk,
     /// The log does not continue the one that it was.
@@ -45,6 +51,10 @@ pub enum Stop {
     Link,
     /// A witness has no state.
     NoState,
+    /// The group may write the file of a key, or others may read or write it.
+    OpenKey,
+    /// The clock stands before 1970.
+    Clock,
     /// A call of the system failed.
     System(io::Error),
     /// A call of the system failed after a slot was begun: what was to be appended may be in the log.

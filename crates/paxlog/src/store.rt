@@ -130,13 +130,13 @@ impl<'a> Keeper<'a> {
     /// Unlocks the file, so that others append to the log and sign it until it is locked again.
     pub fn let_go(&mut self) -> Result<(), Stop> {
         self.left = Some(self.head()?);
-        self.disk.file.unlock()?;
+        self.disk.file().unlock()?;
         Ok(())
     }
 
     /// Locks the file again, and waits for so many seconds at most while another process has locked it.
     pub fn lock_again(&mut self, rt: &HostRuntime, seconds: usize) -> Result<(), Stop> {
-        lock(rt, &self.disk.file, seconds)
+        lock(rt, self.disk.file(), seconds)
     }
 
     // Writes the head again that another process wrote since the lock was let go, as at the opening: its sync may have been refused. The
@@ -153,15 +153,20 @@ impl<'a> Keeper<'a> {
 
     // Refuses a file that no longer has its name: what is appended to it is not in the log that the name has.
     fn keep_name(&self, rt: &HostRuntime) -> Result<(), Stop> {
-        if has_that_name(rt, self.path, &self.disk.file)? {
+        if has_that_name(rt, self.path, self.disk.file())? {
             Ok(())
         } else {
             Err(Stop::Replaced)
         }
     }
 
-    // The size of the log, where it is the one after which entries are to be appended.
-    fn size(&self) -> Result<usize, Stop> {
+    /// Returns the log's file.
+    pub fn disk(&self) -> &FileDisk {
+        &self.disk
+    }
+
+    /// Returns the size of the log, where it is the one after which entries are to be appended. The error is `Other`.
+    pub fn size(&self) -> Result<usize, Stop> {
         let (size, root) = log_store::root(&self.disk, None)?;
         match &self.after {
             Some(after) if !is_after(after, size, &root) => Err(Stop::Fault(Fault::Other)),
@@ -320,13 +325,23 @@ pub fn random_seed(rt: &HostRuntime) -> Result<[u8; 32], Stop> {
     Ok(seed)
 }
 
-/// Makes a new file that its owner alone reads and writes, where there is none, and returns once it is on the disk.
-pub fn created_secret(rt: &HostRuntime, path: &str, bytes: &[u8]) -> Result<(), Stop> {
-    let mut how = OpenOptions::new();
-    let mut file = how.write(true).create_new(true).mode(0o600).open(rt, path)?;
+// Writes the bytes of a new file, and returns once it is on the disk.
+fn write_new(rt: &HostRuntime, mut file: File, path: &str, bytes: &[u8]) -> Result<(), Stop> {
     file.write_all(bytes)?;
     file.sync_all()?;
     sync_folder_of(rt, path)
+}
+
+/// Makes a new file that its owner alone reads and writes, where there is none, and returns once it is on the disk. After an error
+/// there is none.
+pub fn created_secret(rt: &HostRuntime, path: &str, bytes: &[u8]) -> Result<(), Stop> {
+    let mut how = OpenOptions::new();
+    let file = how.write(true).create_new(true).mode(0o600).open(rt, path)?;
+    let written = write_new(rt, file, path, bytes);
+    if written.is_err() {
+        let _ = fs::remove_file(rt, path);
+    }
+    written
 }
 
 /// Makes a new file of what of a file can be recovered, and returns once it is on the disk. The error has the place of the file that

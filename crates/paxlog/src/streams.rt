@@ -1,10 +1,12 @@
 //! Lines that are appended as they come, and published behind their batches.
 
-use crate::batches::{Batches, Source};
+use crate::appending::{Keeping, append_and_keep};
+use crate::batches::{Batch, Batches};
 use crate::checkpoints::signed_by;
+use crate::input::Source;
 use crate::patience::Patience;
 use crate::publishing::publish;
-use crate::reading::file_bytes;
+use crate::reading::key_file_bytes;
 use crate::saying::say_size;
 use crate::stop::{Stop, StopAt, placed};
 use crate::store::Keeper;
@@ -48,7 +50,7 @@ impl<'a> Publisher<'a> {
         let origin = origin_of(words, publication.keyed.origin)?;
         let folder = folder_name(words, publication.folder)?;
         let key_file = name_of_word(words, publication.keyed.key_file)?;
-        let text = file_bytes(rt, key_file)?;
+        let text = key_file_bytes(rt, key_file)?;
         placed(key_file.place, signed_by(rt.alloc(), &text))?;
         Ok(Publisher {
             log,
@@ -107,11 +109,12 @@ fn append_batch(
     rt: &HostRuntime,
     log: Name,
     keeper: &mut Keeper<'_>,
+    keeping: &mut Option<Keeping<'_>>,
     wait: usize,
-    digests: &[[u8; 32]],
+    batch: &Batch,
 ) -> Result<(), StopAt> {
     placed(log.place, keeper.lock_again(rt, wait))?;
-    let size = placed(log.place, keeper.append(rt, digests))?;
+    let size = append_and_keep(rt, log, keeper, keeping, batch)?;
     let done = keeper.let_go();
     // what is on the disk is said, whatever comes
     say_size(rt, size)?;
@@ -124,20 +127,22 @@ pub fn append_batches(
     rt: &HostRuntime,
     log: Name,
     options: &Options,
+    keeping: Option<Keeping<'_>>,
     publisher: Option<Publisher<'_>>,
     file: Name,
     count: usize,
 ) -> Result<u8, StopAt> {
-    let mut publisher = publisher;
+    let (mut keeping, mut publisher) = (keeping, publisher);
     let source = placed(file.place, Source::open(rt, file.text))?;
     let mut keeper = placed(log.place, Keeper::open(rt, log.text, options))?;
     placed(log.place, keeper.let_go())?;
-    let mut batches = Batches::new(rt.alloc(), source, count);
+    let mut batches = Batches::new(rt.alloc(), source, count, keeping.is_some());
     for _turn in 0..u64::MAX {
-        let digests = placed(file.place, batches.next(rt))?;
+        let batch = placed(file.place, batches.next(rt))?;
         // an empty input says the size that there is
-        if !digests.is_empty() || batches.is_first() {
-            append_batch(rt, log, &mut keeper, patience_of(options), &digests)?;
+        if !batch.digests.is_empty() || batches.is_first() {
+            let wait = patience_of(options);
+            append_batch(rt, log, &mut keeper, &mut keeping, wait, &batch)?;
             if let Some(publisher) = &mut publisher {
                 publisher.follow(rt)?;
             }

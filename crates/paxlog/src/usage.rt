@@ -4,9 +4,9 @@ use crate::stop::Stop;
 use std::alloc::Global;
 
 // The words of each command, behind `paxlog`.
-const LINES: [&str; 26] = [
-    "append LOG [--after SIZE ROOT] [--wait SECONDS] [--] FILE ..",
-    "append-lines LOG [--after SIZE ROOT] [--wait SECONDS] [--batch COUNT [--publish FOLDER --key KEYFILE [--origin ORIGIN] [--every MILLISECONDS]]] [--] FILE",
+const LINES: [&str; 28] = [
+    "append LOG [--after SIZE ROOT] [--wait SECONDS] [--keep FOLDER] [--] FILE ..",
+    "append-lines LOG [--after SIZE ROOT] [--wait SECONDS] [--keep FOLDER] [--batch COUNT [--publish FOLDER --key KEYFILE [--origin ORIGIN] [--every MILLISECONDS]]] [--] FILE",
     "root LOG [SIZE]",
     "prove LOG INDEX [SIZE]",
     "show LOG INDEX [SIZE]",
@@ -23,7 +23,9 @@ const LINES: [&str; 26] = [
     "verify-checkpoint KEY FILE [ORIGIN]",
     "tiles LOG FOLDER --key KEYFILE [--origin ORIGIN] [--wait SECONDS]",
     "audit FOLDER KEY [ORIGIN]",
-    "keep FOLDER KEY FILE [ORIGIN] [--wait SECONDS]",
+    "keep FOLDER KEY FILE [ORIGIN] [--from INDEX] [--wait SECONDS]",
+    "keep-bundles FOLDER KEY FILE [ORIGIN] [--from INDEX] [--wait SECONDS]",
+    "keep-files FOLDER KEY [--origin ORIGIN] FILE .. [--from INDEX] [--wait SECONDS]",
     "follow FOLDER KEY STATE [ORIGIN] [--wait SECONDS]",
     "tile-proof FOLDER KEY INDEX [ORIGIN]",
     "receipt FOLDER KEY INDEX [ORIGIN]",

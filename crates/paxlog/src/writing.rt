@@ -40,12 +40,6 @@ fn sync(rt: &HostRuntime, path: &str) -> Result<(), Stop> {
     Ok(())
 }
 
-/// Returns once a file that is there, and its name, are on the disk.
-pub fn sync_file(rt: &HostRuntime, path: &str) -> Result<(), Stop> {
-    sync(rt, path)?;
-    sync(rt, folder_of(path))
-}
-
 /// Returns once the names in each folder on the way from a folder to a file below it are on the disk.
 pub fn sync_way(rt: &HostRuntime, folder: &str, path: &str) -> Result<(), Stop> {
     let mut at = folder_of(path);

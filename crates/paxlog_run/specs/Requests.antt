@@ -14,6 +14,8 @@ use Rattle.paxlog_run.specs.declared.request.Keyed.{Keyed}
 use Rattle.paxlog_run.specs.declared.request.Publication.{Publication}
 use Rattle.paxlog_run.specs.declared.request.waits.Waiting.{Waiting}
 use Rattle.paxlog_run.specs.declared.request.Site.{Site}
+use Rattle.paxlog_run.specs.declared.request.Entries.TheVariants.{Lines, Bundles, Files}
+use Rattle.paxlog_run.specs.declared.request.keeps.FromAt.{FromAt}
 use Rattle.paxlog_run.specs.declared.request.Request.TheVariants.{Append, AppendLines, Root, Prove, Show, Consistency, Check, Find, Recover, Verify, VerifyConsistency, Keygen, Checkpoint, VerifyCheckpoint, Tiles, Audit, Follow, Keep, TileProof, VerifyReceipt, Witness, Help, Version}
 
 -- the digest that a word spells in hexadecimal
@@ -172,7 +174,7 @@ version_request words = do
 -- no option yet, behind LOG
 abbrev pub no_options : OptionsAt
 no_options = record {
-  options = record { after = None; wait = 0; batch = None };
+  options = record { after = None; wait = 0; batch = None; keep = None };
   publish = record { folder = None; key_file = None; origin = None; every = None };
   place = 2;
 }
@@ -208,35 +210,36 @@ option_more words at =
       size ← number_word_at words (at.place + 1)
       root ← digest_word_at words (at.place + 2)
       Ok (record {
-        options = record {
-          after = Some (record { size = size; root = root });
-          wait = at.options.wait;
-          batch = at.options.batch;
-        };
+        options = record at.options { after = Some (record { size = size; root = root }) };
         publish = at.publish;
         place = at.place + 3;
       }))
     else if bytes_eq (get_or words at.place []) (codes "--wait") then (do
       seconds ← number_word_at words (at.place + 1)
       Ok (record {
-        options = record { after = at.options.after; wait = seconds; batch = at.options.batch };
+        options = record at.options { wait = seconds };
         publish = at.publish;
         place = at.place + 2;
       }))
     else if bytes_eq (get_or words at.place []) (codes "--batch") then (do
       count ← number_word_at words (at.place + 1)
       if count == 0 then Err (NoLines (at.place + 1)) else Ok (record {
-        options = record { after = at.options.after; wait = at.options.wait; batch = Some count };
+        options = record at.options { batch = Some count };
         publish = at.publish;
         place = at.place + 2;
       }))
+    else if bytes_eq (get_or words at.place []) (codes "--keep") then Ok (record {
+      options = record at.options { keep = Some (typed_at (at.place + 1)) };
+      publish = at.publish;
+      place = at.place + 2;
+    })
     else publish_more words at
 
 -- a place of files, or that behind it where -- stands there
 abbrev pub files_at : List (List ℕ) → ℕ → ℕ
 files_at words place = if bytes_eq (get_or words place []) (codes "--") then place + 1 else place
 
--- at most seven options, and the place of the files behind them
+-- at most eight options, and the place of the files behind them
 abbrev pub options_in : List (List ℕ) → Read OptionsAt
 options_in words = do
   one ← option_more words no_options
@@ -246,7 +249,8 @@ options_in words = do
   five ← option_more words four
   six ← option_more words five
   seven ← option_more words six
-  Ok (record { options = seven.options; publish = seven.publish; place = files_at words seven.place })
+  eight ← option_more words seven
+  Ok (record { options = eight.options; publish = eight.publish; place = files_at words eight.place })
 
 -- a publication of batches alone, with the key that signs it; 0 milliseconds where none are named
 abbrev pub published_as : Option Word → Option Word → Option Word → Option ℕ → Option ℕ → Read (Option Publication)
@@ -270,7 +274,7 @@ abbrev pub publication_of : OptionsAt → Read (Option Publication)
 publication_of at =
     published_as at.publish.folder at.publish.key_file at.publish.origin at.publish.every at.options.batch
 
--- append LOG [--after SIZE ROOT] [--wait SECONDS] [--] FILE ..: at once, so that they name no batch
+-- append LOG [--after SIZE ROOT] [--wait SECONDS] [--keep FOLDER] [--] FILE ..: at once, so that they name no batch
 abbrev pub append_request : List (List ℕ) → Read Request
 append_request words = do
   at ← options_in words
@@ -278,8 +282,8 @@ append_request words = do
     publication ← publication_of at
     if nat_lt at.place (length words) then Ok (Append (typed_at 1) at.options at.place) else Err TooFew
 
--- append-lines LOG [--after SIZE ROOT] [--wait SECONDS] [--batch COUNT] [--] FILE, and [--publish FOLDER --key KEYFILE
--- [--origin ORIGIN] [--every MILLISECONDS]] among the options
+-- append-lines LOG [--after SIZE ROOT] [--wait SECONDS] [--keep FOLDER] [--batch COUNT] [--] FILE, and
+-- [--publish FOLDER --key KEYFILE [--origin ORIGIN] [--every MILLISECONDS]] among the options
 abbrev pub append_lines_request : List (List ℕ) → Read Request
 append_lines_request words = do
   at ← options_in words
@@ -317,11 +321,35 @@ audit_request words = do
   count ← counted words 3 4
   Ok (Audit (site_at (origin_at words 3)))
 
--- keep FOLDER KEY FILE [ORIGIN]
-abbrev pub keep_request : List (List ℕ) → Read Request
-keep_request words = do
-  count ← counted words 4 5
-  Ok (Keep (site_at (origin_at words 4)) (typed_at 3))
+-- how many words stand before --from INDEX at their end, and the index: all and none where it does not stand there
+abbrev pub from_in : List (List ℕ) → Read FromAt
+from_in words =
+    if nat_lt 2 (length words) && bytes_eq (get_or words (length words - 2) []) (codes "--from") then (do
+      index ← number_word_at words (length words - 1)
+      Ok (record { count = length words - 2; from = Some index }))
+    else Ok (record { count = length words; from = None })
+
+-- the word at a place, if it is one of so many
+abbrev pub word_before : ℕ → ℕ → Option Word
+word_before count place = if nat_lt place count then Some (typed_at place) else None
+
+-- keep FOLDER KEY FILE [ORIGIN] [--from INDEX], or keep-bundles
+abbrev pub keep_request : List (List ℕ) → Bool → Read Request
+keep_request words is_bundled = do
+  at ← from_in words
+  if nat_lt at.count 4 then Err TooFew
+      else if nat_lt 5 at.count then Err TooMany
+      else Ok (Keep (site_at (word_before at.count 4))
+      (if is_bundled then Bundles (typed_at 3) else Lines (typed_at 3)) at.from)
+
+-- keep-files FOLDER KEY [--origin ORIGIN] FILE .. [--from INDEX]
+abbrev pub keep_files_request : List (List ℕ) → Read Request
+keep_files_request words = do
+  at ← from_in words
+  if bytes_eq (get_or words 3 []) (codes "--origin") then (if nat_lt 5 at.count
+      then Ok (Keep (site_at (Some (typed_at 4))) (Files 5 at.count) at.from) else Err TooFew)
+      else if nat_lt 3 at.count then Ok (Keep (site_at None) (Files 3 at.count) at.from)
+      else Err TooFew
 
 -- follow FOLDER KEY STATE [ORIGIN]
 abbrev pub follow_request : List (List ℕ) → Read Request
@@ -349,12 +377,14 @@ witness_request words = do
   Ok (Witness (site_at keyed.origin) (typed_at 3) keyed.key_file)
 
 -- what is asked for by a word about folders of tiles, the first of all
-abbrev pub asked_of_tiles : List ℕ → List (List ℕ) → Read Request
+unfoldable pub asked_of_tiles : List ℕ → List (List ℕ) → Read Request
 asked_of_tiles word words =
     if bytes_eq word (codes "tiles") then tiles_request words
     else if bytes_eq word (codes "audit") then audit_request words
     else if bytes_eq word (codes "follow") then follow_request words
-    else if bytes_eq word (codes "keep") then keep_request words
+    else if bytes_eq word (codes "keep") then keep_request words false
+    else if bytes_eq word (codes "keep-bundles") then keep_request words true
+    else if bytes_eq word (codes "keep-files") then keep_files_request words
     else if bytes_eq word (codes "tile-proof") then tile_proof_request words false
     else if bytes_eq word (codes "receipt") then tile_proof_request words true
     else if bytes_eq word (codes "verify-receipt") then verify_receipt_request words
@@ -408,7 +438,8 @@ request_of_words words = if nat_lt 0 (length words) then asked_of_logs (get_or w
 abbrev pub waits_at_end : List ℕ → Bool
 waits_at_end word =
     bytes_eq word (codes "checkpoint") || bytes_eq word (codes "tiles") || bytes_eq word (codes "recover")
-    || bytes_eq word (codes "keep") || bytes_eq word (codes "follow") || bytes_eq word (codes "witness")
+    || bytes_eq word (codes "keep") || bytes_eq word (codes "keep-bundles") || bytes_eq word (codes "keep-files")
+    || bytes_eq word (codes "follow") || bytes_eq word (codes "witness")
 
 -- how many words stand before --wait SECONDS at their end, and the seconds: all and 0 where it does not stand there
 abbrev pub waiting_in : List (List ℕ) → Read Waiting

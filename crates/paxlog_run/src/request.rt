@@ -4,6 +4,7 @@ ghost use Rattle.std.specs.Prelude.{◌≡◌, [], get_or, map, vec_items};
 ghost use Rattle.paxlog_run.specs.Requests.{asked_of_logs, request_of_words};
 
 mod appends;
+mod keeps;
 mod parts;
 mod signed;
 mod unsigned;
@@ -35,6 +36,8 @@ pub struct Options {
     pub wait: usize,
     /// How many lines are appended at once; all where no count is named. It is not 0.
     pub batch: Option<usize>,
+    /// The folder that keeps the bytes of the entries, where one is named.
+    pub keep: Option<Word>,
 }
 
 /// An inclusion proof that is to be checked.
@@ -79,6 +82,17 @@ pub struct Site {
     pub folder: Word,
     pub key: Word,
     pub origin: Option<Word>,
+}
+
+/// The entries whose bytes are to be kept, and the words that say where they are.
+#[derive(Clone, Copy)]
+pub enum Entries {
+    /// The lines of FILE.
+    Lines(Word),
+    /// The entries of FILE, each behind its length in two bytes, the highest first.
+    Bundles(Word),
+    /// Each word from a place on, before another, is a FILE that is an entry.
+    Files { first: usize, end: usize },
 }
 
 /// What is asked for, with the words that say it.
@@ -158,7 +172,9 @@ pub enum Request {
     },
     Keep {
         site: Site,
-        file: Word,
+        entries: Entries,
+        /// The index of the first of these entries; that of what is not kept yet, of all entries, where none is named.
+        from: Option<usize>,
     },
     Follow {
         site: Site,

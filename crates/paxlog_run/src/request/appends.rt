@@ -26,7 +26,7 @@ pub struct OptionsAt {
 
 // The same with an option more of where the log is published, if one stands at the place.
 fn publish_more(words: &[Vec<u8>], at: OptionsAt) -> Result<OptionsAt, Misuse>
-    requires { at.place ≤ 20 }
+    requires { at.place ≤ 23 }
     ensures more { result ≡ publish_more (map vec_items words.now) at }
     ensures near { IfOk result (λ more. more.place ≤ at.place + 2) }
 {
@@ -82,7 +82,7 @@ fn publish_more(words: &[Vec<u8>], at: OptionsAt) -> Result<OptionsAt, Misuse>
 
 // The same with one option more, if one stands at the place.
 fn option_more(words: &[Vec<u8>], at: OptionsAt) -> Result<OptionsAt, Misuse>
-    requires { at.place ≤ 20 }
+    requires { at.place ≤ 23 }
     ensures more { result ≡ option_more (map vec_items words.now) at }
     ensures near { IfOk result (λ more. more.place ≤ at.place + 3) }
 {
@@ -91,7 +91,12 @@ fn option_more(words: &[Vec<u8>], at: OptionsAt) -> Result<OptionsAt, Misuse>
         publish,
         place,
     } = at;
-    let Options { after, wait, batch } = options;
+    let Options {
+        after,
+        wait,
+        batch,
+        keep,
+    } = options;
     if bytes_at(words, place) == b"--after".as_slice() {
         let after = After {
             size: number_word_at(words, place + 1)?,
@@ -102,6 +107,7 @@ fn option_more(words: &[Vec<u8>], at: OptionsAt) -> Result<OptionsAt, Misuse>
                 after: Some(after),
                 wait,
                 batch,
+                keep,
             },
             publish,
             place: place + 3,
@@ -112,6 +118,7 @@ fn option_more(words: &[Vec<u8>], at: OptionsAt) -> Result<OptionsAt, Misuse>
                 after,
                 wait: number_word_at(words, place + 1)?,
                 batch,
+                keep,
             },
             publish,
             place: place + 2,
@@ -126,6 +133,18 @@ fn option_more(words: &[Vec<u8>], at: OptionsAt) -> Result<OptionsAt, Misuse>
                 after,
                 wait,
                 batch: Some(count),
+                keep,
+            },
+            publish,
+            place: place + 2,
+        })
+    } else if bytes_at(words, place) == b"--keep".as_slice() {
+        Ok(OptionsAt {
+            options: Options {
+                after,
+                wait,
+                batch,
+                keep: Some(typed_at(place + 1)),
             },
             publish,
             place: place + 2,
@@ -137,7 +156,7 @@ fn option_more(words: &[Vec<u8>], at: OptionsAt) -> Result<OptionsAt, Misuse>
 
 // A place of files, or that behind it where `--` stands there.
 fn files_at(words: &[Vec<u8>], place: usize) -> usize
-    requires { place ≤ 23 }
+    requires { place ≤ 26 }
     ensures files { result ≡ files_at (map vec_items words.now) place }
     ensures near { result ≤ place + 1 }
 {
@@ -151,13 +170,14 @@ fn files_at(words: &[Vec<u8>], place: usize) -> usize
 // The options of an append, and the place of the files behind them.
 fn options_in(words: &[Vec<u8>]) -> Result<OptionsAt, Misuse>
     ensures options { result ≡ options_in (map vec_items words.now) }
-    ensures near { IfOk result (λ at. at.place ≤ 24) }
+    ensures near { IfOk result (λ at. at.place ≤ 27) }
 {
     let none = OptionsAt {
         options: Options {
             after: None,
             wait: 0,
             batch: None,
+            keep: None,
         },
         publish: PublishOptions {
             folder: None,
@@ -173,11 +193,12 @@ fn options_in(words: &[Vec<u8>]) -> Result<OptionsAt, Misuse>
     let four = option_more(words, three)?;
     let five = option_more(words, four)?;
     let six = option_more(words, five)?;
+    let seven = option_more(words, six)?;
     let OptionsAt {
         options,
         publish,
         place,
-    } = option_more(words, six)?;
+    } = option_more(words, seven)?;
     Ok(OptionsAt {
         options,
         publish,

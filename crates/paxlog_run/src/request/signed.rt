@@ -1,8 +1,9 @@
 //! What is asked for by words about checkpoints and tiles.
 
 ghost use Rattle.std.specs.Prelude.{◌≡◌, map, vec_items};
-ghost use Rattle.paxlog_run.specs.Requests.{asked_of_checkpoints, asked_of_tiles, audit_request, checkpoint_request, follow_request, keep_request, keygen_request, tile_proof_request, tiles_request, verify_checkpoint_request, verify_receipt_request, witness_request};
+ghost use Rattle.paxlog_run.specs.Requests.{asked_of_checkpoints, asked_of_tiles, audit_request, checkpoint_request, follow_request, keygen_request, tile_proof_request, tiles_request, verify_checkpoint_request, verify_receipt_request, witness_request};
 
+use crate::request::keeps::{keep_files_request, keep_request};
 use crate::request::parts::{counted, keyed_at, number_word_at, origin_at, site_at, typed_at};
 use crate::request::{Keyed, Misuse, Request};
 
@@ -61,17 +62,6 @@ fn audit_request(words: &[Vec<u8>]) -> Result<Request, Misuse>
     })
 }
 
-// That the entries of a file are to be kept.
-fn keep_request(words: &[Vec<u8>]) -> Result<Request, Misuse>
-    ensures { result ≡ keep_request (map vec_items words.now) }
-{
-    counted(words, 4, 5)?;
-    Ok(Request::Keep {
-        site: site_at(origin_at(words, 4)),
-        file: typed_at(3),
-    })
-}
-
 // That a state is to follow.
 fn follow_request(words: &[Vec<u8>]) -> Result<Request, Misuse>
     ensures { result ≡ follow_request (map vec_items words.now) }
@@ -121,6 +111,7 @@ fn witness_request(words: &[Vec<u8>]) -> Result<Request, Misuse>
 }
 
 // What is asked for by a word that is about folders of tiles, the first of all.
+#[tactic(auto, unfolding(crate::specs::Requests::asked_of_tiles))]
 fn asked_of_tiles(word: &[u8], words: &[Vec<u8>]) -> Result<Request, Misuse>
     ensures { result ≡ asked_of_tiles word.now (map vec_items words.now) }
 {
@@ -131,7 +122,11 @@ fn asked_of_tiles(word: &[u8], words: &[Vec<u8>]) -> Result<Request, Misuse>
     } else if word == b"follow".as_slice() {
         follow_request(words)
     } else if word == b"keep".as_slice() {
-        keep_request(words)
+        keep_request(words, false)
+    } else if word == b"keep-bundles".as_slice() {
+        keep_request(words, true)
+    } else if word == b"keep-files".as_slice() {
+        keep_files_request(words)
     } else if word == b"tile-proof".as_slice() {
         tile_proof_request(words, false)
     } else if word == b"receipt".as_slice() {

@@ -21,6 +21,8 @@ fn waits_at_end(word: &[u8]) -> bool
         || word == b"tiles".as_slice()
         || word == b"recover".as_slice()
         || word == b"keep".as_slice()
+        || word == b"keep-bundles".as_slice()
+        || word == b"keep-files".as_slice()
         || word == b"follow".as_slice()
         || word == b"witness".as_slice()
 }

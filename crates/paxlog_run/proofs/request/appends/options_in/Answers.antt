@@ -11,6 +11,7 @@ returns-clause-near c =
       c.in_ok-four.ensures.near,
       c.in_ok-five.ensures.near,
       c.in_ok-six.ensures.near,
+      c.in_ok-seven.ensures.near,
       c.in_ok-options.ensures.near,
       c.in_ok-options.place-is,
       c.files_at.ensures.near,

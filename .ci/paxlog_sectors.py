@@ -1,0 +1,66 @@
+"""Logs whose two slots lie in different sectors: .ci/paxlog calls it."""
+import os
+import shutil
+import subprocess
+
+from paxlog_model import PROGRAM, TITLE, ask, check, file_of, path, read, root, write
+
+SECTOR_TITLE = b"paxidore log of SHA-256, sectors"
+
+
+def apart(data):
+    """The file with sectors of a log's file."""
+    first, second = SECTOR_TITLE + data[32:64], SECTOR_TITLE + data[64:96]
+    return first.ljust(4096, b"\0") + second.ljust(4096, b"\0") + data[96:]
+
+
+def together(data):
+    return TITLE + data[32:64] + data[4128:4160] + data[8192:]
+
+
+def lies_apart(room, names, digests):
+    log = room + "/apart"
+    for size in (0, 1, 2, 5, len(digests) - 1):
+        whole, said = apart(file_of(digests[:size])), (0, "%d %s\n" % (size, root(digests[:size]).hex()), "")
+        write(log, whole)
+        check("slots in two sectors: the root of %d" % size, ask("root", log) == said)
+        check("slots in two sectors: it is a log", ask("check", log)[:2] == (0, "yes\n"))
+        lost = [bytes(4096) + whole[4096:], whole[:4096] + bytes(4096) + whole[8192:], os.urandom(4096) + whole[4096:]]
+        for number, data in enumerate(lost):
+            write(log, data)
+            check("lost sector %d: the root of %d" % (number, size), ask("root", log) == said and read(log) == data)
+            if size:
+                end = ask("prove", log, 0)
+                check("lost sector %d: a proof" % number, end[0] == 0 and path(0, digests[:size]).hex() in end[1].replace("\n", ""))
+            os.path.exists(log + "-new") and os.remove(log + "-new")
+            check("lost sector %d: it is recovered" % number, ask("recover", log, log + "-new")[0] == 0)
+            check("lost sector %d: the new file" % number, read(log + "-new") == file_of(digests[:size]))
+        write(log, whole)
+        check("slots in two sectors: an append", ask("append", log, names[size]) == (0, "%d\n" % (size + 1), ""))
+        check("slots in two sectors: the file", together(read(log)) == file_of(digests[: size + 1]))
+        check("slots in two sectors: it lies as it did", read(log) == apart(file_of(digests[: size + 1])))
+        write(log, lost[1])
+        check("zeros for the second slot: an append", ask("append", log, names[size]) == (0, "%d\n" % (size + 1), ""))
+        check("zeros for the second slot: both are there", together(read(log)) == file_of(digests[: size + 1]))
+        write(log, lost[0])
+        check("no first sector: nothing is written", ask("append", log, names[size])[0] == 6 and read(log) == lost[0])
+    for cut in (0, 32, 64, 4096, 4160, 8191):
+        write(log, apart(file_of([]))[:cut])
+        check("a file with sectors that is cut at %d" % cut, ask("root", log)[0] == 3)
+    if not shutil.which("strace"):
+        return
+    before, after = apart(file_of(digests[:5])), {"%d %s\n" % (size, root(digests[:size]).hex()) for size in (5, 6)}
+    for call, times in (("pwrite64", 6), ("fsync", 5)):
+        for number in range(1, times + 1):
+            for how in ("signal=KILL", "error=EIO"):
+                write(log, before)
+                trace = ["strace", "-o", "/dev/null", "-e", "trace=" + call, "-e", "inject=%s:%s:when=%d" % (call, how, number)]
+                subprocess.run([*trace, PROGRAM, "append", log, names[5]], stdout=subprocess.PIPE, stderr=subprocess.PIPE)
+                check("%s %d, %s: the log in two sectors" % (call, number, how), ask("root", log)[1] in after)
+    # a sector whose read is refused: of these calls the first reads the first sector, the second one the second sector
+    for number in (1, 2):
+        write(log, before)
+        trace = ["strace", "-o", "/dev/null", "-e", "trace=pread64", "-e", "inject=pread64:error=EIO:when=%d" % number, "-P", log]
+        ran = subprocess.run([*trace, PROGRAM, "root", log], stdout=subprocess.PIPE, stderr=subprocess.PIPE)
+        check("sector %d is refused: the log" % number, ran.stdout.decode() in after)
+    os.remove(log)
