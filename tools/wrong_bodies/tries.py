@@ -66,7 +66,7 @@ class Tries:
                     shutil.copytree(f"{self.crate.folder}/{part}", f"{room}/{part}")
             if is_begun:
                 with contextlib.suppress(OSError, shutil.Error):
-                    rt.linked(f"{self.crate.folder}/out/incremental", f"{room}/kept")
+                    shutil.copytree(f"{self.crate.folder}/out/incremental", f"{room}/kept")
             os.makedirs(f"{room}/kept", exist_ok=True)
             for group in groups_of(ready, self.sources):
                 self.try_group(room, group)
@@ -129,7 +129,7 @@ def try_crates(tries, start):
             how = "run `rt all check` first" if start is None else "remove crates/*/out, and begin with `rt ci` again"
             it.fail("*", f"the library {stale} is not there as the last run has proved it: {how}")
             continue
-        weight, memory = it.crate.count(rb"\n") * (1 + len(it.edits)), rt.OVER * rt.need(it.crate)
+        weight, memory = it.crate.count(rb"\n") * (1 + len(it.edits)), rt.need(it.crate)
         tasks[it.crate.name, "edits"] = [], weight, memory, lambda given, jobs, it=it: it.try_all(is_begun=start is None)
     rt.in_lanes(tasks)
     passed, failed = (sum(getattr(it, word) for it in tries) for word in ("passed", "failed"))
