@@ -7,12 +7,13 @@ ghost use Rattle.jubjub.specs.Values.{value};
 ghost use Rattle.jubjub.specs.Laws.Points.{in_subgroup_alike};
 
 use crate::bytes::bytes_of_point;
-use crate::extended::{Extended, crossed, doubled, is_identity, lifted, plus_crossed, to_affine};
+use crate::extended::{Extended, crossed, lifted, plus_crossed};
 use crate::multiple::{
     is_on_curve, order_of_subgroup, public_multiple, public_sum_of_multiples, scalar_multiple,
 };
 use ark_groups::ff::{Field, Words};
 use ark_wide_fields::Bls12_381Fr;
+use edwards::{affine, doubled, is_neutral};
 
 mod absorb;
 mod digest;
@@ -93,7 +94,7 @@ impl Jubjub {
         requires { (a : Coordinates) × IsInSubgroup a × Stands point a }
         ensures { (a : Coordinates) → IsInSubgroup a → Stands point a → coordinates result ≡ a }
     {
-        let (x, y) = to_affine(point);
+        let (x, y) = affine(point);
         Jubjub::of(x, y)
     }
 
@@ -195,7 +196,7 @@ impl Jubjub {
         if !is_on_curve(x, y) {
             return None;
         }
-        if !is_identity(public_multiple(lifted(x, y), order_of_subgroup())) {
+        if !is_neutral(public_multiple(lifted(x, y), order_of_subgroup())) {
             return None;
         }
         Some(Jubjub::of(x, y))

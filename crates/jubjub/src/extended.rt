@@ -1,8 +1,7 @@
 //! Points by four coordinates.
 
 ghost use Rattle.std.specs.Prelude.{◌≡◌, ◌*◌, ◌%◌};
-ghost use Rattle.std.specs.Bool.{Decides};
-ghost use Rattle.jubjub.specs.Edwards.{Coordinates, neutral, sum};
+ghost use Rattle.jubjub.specs.Edwards.{Coordinates, sum};
 ghost use Rattle.jubjub.specs.Jubjub.{p, d, IsOnJubjub};
 ghost use Rattle.jubjub.specs.Extended.{Stands};
 ghost use Rattle.jubjub.specs.Values.{value};
@@ -36,16 +35,6 @@ pub fn twice_coefficient() -> Bls12_381Fr
     coefficient().double()
 }
 
-/// Returns the sum of two points of the curve, by twice the curve's coefficient.
-#[inline(always)]
-pub fn plus(twice: Bls12_381Fr, a: Extended, b: Extended) -> Extended
-    requires { value twice ≡ 2 * d % p }
-    ensures { (s t : Coordinates) → IsOnJubjub s → IsOnJubjub t → Stands a s → Stands b t
-        → Stands result (sum p d s t) }
-{
-    edwards::plus(twice, a, b)
-}
-
 /// Returns 2 d x y, where d is the curve's coefficient.
 pub fn crossed(x: Bls12_381Fr, y: Bls12_381Fr) -> Bls12_381Fr
     ensures { value result ≡ 2 * d * value x * value y % p }
@@ -62,29 +51,4 @@ pub fn plus_crossed(a: Extended, x: Bls12_381Fr, y: Bls12_381Fr, crossed: Bls12_
         → Stands result (sum p d s t) }
 {
     edwards::plus_products(a, y.sub(x), y.add(x), crossed)
-}
-
-/// Returns the double of a point of the curve.
-#[inline(always)]
-pub fn doubled(a: Extended) -> Extended
-    ensures { (s : Coordinates) → IsOnJubjub s → Stands a s → Stands result (sum p d s s) }
-{
-    edwards::doubled(a)
-}
-
-/// Returns the point's coordinates.
-#[inline(always)]
-pub fn to_affine(a: Extended) -> (Bls12_381Fr, Bls12_381Fr)
-    ensures x { (s : Coordinates) → IsOnJubjub s → Stands a s → value result.0 ≡ s.x }
-    ensures y { (s : Coordinates) → IsOnJubjub s → Stands a s → value result.1 ≡ s.y }
-{
-    edwards::affine(a)
-}
-
-/// Returns whether it is the neutral point.
-#[inline(always)]
-pub fn is_identity(a: Extended) -> bool
-    ensures { (s : Coordinates) → IsOnJubjub s → Stands a s → Decides result (s ≡ neutral) }
-{
-    edwards::is_neutral(a)
 }

@@ -9,10 +9,11 @@ ghost use Rattle.jubjub.specs.Jubjub.{p, d, order, curve, IsOnJubjub};
 ghost use Rattle.jubjub.specs.Extended.{Stands};
 ghost use Rattle.jubjub.specs.Values.{value};
 
-use crate::extended::{Extended, coefficient, doubled, plus, twice_coefficient, zero};
+use crate::extended::{Extended, coefficient, twice_coefficient, zero};
 use crate::scalar::short;
 use ark_groups::ff::{Field, Words};
 use ark_wide_fields::Bls12_381Fr;
+use edwards::{doubled, plus};
 
 /// Returns the order of the prime subgroup.
 pub fn order_of_subgroup() -> Words

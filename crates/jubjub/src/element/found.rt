@@ -8,10 +8,11 @@ ghost use Rattle.jubjub.specs.Draws.{element_draw};
 
 use crate::decoding::first_over;
 use crate::element::Jubjub;
-use crate::extended::{is_identity, lifted};
+use crate::extended::lifted;
 use crate::multiple::public_multiple;
 use ark_groups::ff::{UniformRand, Words};
 use ark_wide_fields::Bls12_381Fr;
+use edwards::is_neutral;
 use rand::Rng;
 
 // How many points over drawn coordinates are tried.
@@ -32,7 +33,7 @@ pub fn cleared_over(y: Bls12_381Fr, odd: bool) -> Option<Jubjub>
 {
     let x = first_over(y, odd)?;
     let cleared = public_multiple(lifted(x, y), COFACTOR);
-    if is_identity(cleared) {
+    if is_neutral(cleared) {
         return None;
     }
     Some(Jubjub::of_extended(cleared))

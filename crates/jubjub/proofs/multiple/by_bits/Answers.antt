@@ -20,10 +20,11 @@ loop-rest-preserved c s on of_a =
     elim c.if-rest-eq1.branch [
       | then-rest-eq1 w ↦ subst (λ (e : Extended). AreLeft d jubjub_is_complete e power half n s) (sym w.sum-is)
           (odd_left d jubjub_is_complete before.sum before.power w.plus-sum.result power before.rest n s on
-          w.plus-sum.ensures c.doubled-power.ensures w.if-rest-eq1.true left)
+          (w.plus-sum.ensures d jubjub_is_complete c.twice_coefficient-twice.ensures)
+          (c.doubled-power.ensures d jubjub_is_complete) w.if-rest-eq1.true left)
       | else-rest-eq1 w ↦ subst (λ (e : Extended). AreLeft d jubjub_is_complete e power half n s) (sym w.sum-is)
-          (even_left d jubjub_is_complete before.sum before.power power before.rest n s on c.doubled-power.ensures
-          w.if-rest-eq1.false left)
+          (even_left d jubjub_is_complete before.sum before.power power before.rest n s on
+          (c.doubled-power.ensures d jubjub_is_complete) w.if-rest-eq1.false left)
     ]
 
 pub returns : goal.returns

@@ -10,12 +10,13 @@ ghost use Rattle.jubjub.specs.Laws.Elements.{same_element};
 use crate::element::found::element_drawn;
 use crate::element::sums::many::elements_of_sums;
 use crate::element::{Jubjub, JubjubSum};
-use crate::extended::{doubled, lifted, plus, plus_crossed, twice_coefficient};
+use crate::extended::{lifted, plus_crossed, twice_coefficient};
 use crate::fr::JubjubFr;
 use ark_base::error::Error;
 use ark_groups::ec::{AdditiveGroup, TECoordinates};
 use ark_groups::ff::Field;
 use ark_wide_fields::Bls12_381Fr;
+use edwards::{doubled, plus};
 use rand::Rng;
 use std::alloc::Global;
 

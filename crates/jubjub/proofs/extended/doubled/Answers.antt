@@ -1,6 +1,0 @@
-use Rattle.jubjub.specs.Jubjub.{d}
-use Rattle.jubjub.specs.Laws.Completeness.{jubjub_is_complete}
-use Rattle.jubjub.proofs.extended.doubled.Goals as goal
-
-pub returns : goal.returns
-returns c = c.doubled.ensures d jubjub_is_complete
