@@ -57,7 +57,7 @@ fn hash_blocks(mut h: [u32; 8], blocks: &[[u32; 16]], len: u64) -> [u32; 8]
 }
 
 /// Returns the digest of a text with salt and personalization.
-pub fn digest(
+pub fn plain_digest(
     alloc: Global,
     salt: &[u8; 8],
     personalization: &[u8; 8],

@@ -10,7 +10,7 @@ use ark_groups::ec::{AdditiveGroup, TECoordinates};
 use std::alloc::{AllocError, Global};
 
 // The digit of a chunk.
-fn digit(a: bool, b: bool, c: bool) -> i64
+fn digit_of_bits(a: bool, b: bool, c: bool) -> i64
     ensures { result ≡ digit (a, b, c) }
 {
     match (a, b, c) {
@@ -37,7 +37,7 @@ fn signed_times<G: AdditiveGroup>(count: i64, x: G) -> G
 }
 
 // The bit at a place; a missing bit is not set.
-fn bit_at(bits: &[bool], place: usize) -> bool
+fn bit_in(bits: &[bool], place: usize) -> bool
     ensures { result ≡ slice_index_or bits.now place false }
 {
     match bits.get(place) {
@@ -47,7 +47,7 @@ fn bit_at(bits: &[bool], place: usize) -> bool
 }
 
 // What stands behind the first items.
-fn behind<T>(items: &[T], count: usize) -> &[T]
+fn items_behind<T>(items: &[T], count: usize) -> &[T]
     ensures { result.now ≡ drop count items.now }
 {
     &items[count.min(items.len())..]
@@ -67,8 +67,8 @@ fn chunks_of(alloc: Global, bits: &[bool]) -> Result<Vec<(bool, bool, bool)>, Al
     let mut chunks = Vec::new(alloc);
     let mut rest = bits;
     while !rest.is_empty() {
-        chunks.push((bit_at(rest, 0), bit_at(rest, 1), bit_at(rest, 2)))?;
-        rest = behind(rest, 3);
+        chunks.push((bit_in(rest, 0), bit_in(rest, 1), bit_in(rest, 2)))?;
+        rest = items_behind(rest, 3);
     }
     Ok(chunks)
 }
@@ -81,9 +81,9 @@ fn digits_sum<G: AdditiveGroup>(elements: &[G], chunks: &[(bool, bool, bool)]) -
         return G::zero();
     }
     let (a, b, c) = chunks[0];
-    signed_times(digit(a, b, c), elements[0]).add(digits_sum(
-        behind(elements, 1),
-        behind(chunks, 1),
+    signed_times(digit_of_bits(a, b, c), elements[0]).add(digits_sum(
+        items_behind(elements, 1),
+        items_behind(chunks, 1),
     ))
 }
 
@@ -96,7 +96,7 @@ fn segment_scalar(chunks: &[(bool, bool, bool)]) -> i64
         return 0;
     }
     let (a, b, c) = chunks[0];
-    digit(a, b, c) + 16 * segment_scalar(behind(chunks, 1))
+    digit_of_bits(a, b, c) + 16 * segment_scalar(items_behind(chunks, 1))
 }
 
 // The sum over segments of one size, each element as often as the scalar of its segment says.
@@ -110,8 +110,8 @@ fn segments_sum<G: AdditiveGroup>(size: usize, elements: &[G], chunks: &[(bool, 
     let scalar = segment_scalar(front(chunks, size));
     signed_times(scalar, elements[0]).add(segments_sum(
         size,
-        behind(elements, 1),
-        behind(chunks, size),
+        items_behind(elements, 1),
+        items_behind(chunks, size),
     ))
 }
 
@@ -128,7 +128,7 @@ fn push_bits(bits: &mut Vec<bool>, byte: u8) -> Result<(), AllocError>
 }
 
 // The binary digits of bytes, the lowest of each byte first.
-fn bits_of(alloc: Global, bytes: &[u8]) -> Result<Vec<bool>, AllocError>
+fn bits_of_text(alloc: Global, bytes: &[u8]) -> Result<Vec<bool>, AllocError>
     ensures { IfOk result (λ bits. bits.items ≡ bits_of_bytes bytes.now) }
 {
     let mut bits = Vec::new(alloc);
@@ -153,7 +153,7 @@ fn concatenation<G: AdditiveGroup>(alloc: Global, lists: &[Vec<G>]) -> Result<Ve
 fn input_chunks(alloc: Global, input: &[u8]) -> Result<Vec<(bool, bool, bool)>, AllocError>
     ensures { IfOk result (λ chunks. chunks.items ≡ chunks_of (bits_of_bytes input.now)) }
 {
-    chunks_of(alloc, &bits_of(alloc, input)?)
+    chunks_of(alloc, &bits_of_text(alloc, input)?)
 }
 
 /// Returns the first coordinate of the sum of the elements of lists, each as often as the digit of its chunk of the

@@ -15,7 +15,7 @@ use ark_crh::TwoToOneCRHScheme;
 use ark_merkle::index::is_bit_set;
 use ark_merkle::pair::hash_bottom;
 use ark_merkle::{Config, TwoToOneParam, Views};
-pub use multi::multi_verdict;
+pub use multi::plain_multi_verdict;
 use std::alloc::Global;
 
 /// A place of a list of leaf digests: its root, or the refusal in it with its level.
@@ -98,7 +98,7 @@ pub fn place<P: Config>(
 }
 
 /// Returns what the digests beside a way make of the lowest one on it.
-pub fn climb<H: TwoToOneCRHScheme>(
+pub fn plain_climb<H: TwoToOneCRHScheme>(
     alloc: Global,
     pair_parameters: &H::Parameters,
     index: usize,
@@ -112,7 +112,7 @@ pub fn climb<H: TwoToOneCRHScheme>(
     match beside.split_first() {
         None => lowest.duplicate(alloc),
         Some((first, rest)) => {
-            let below = climb::<H>(alloc, pair_parameters, index, rest, lowest)?;
+            let below = plain_climb::<H>(alloc, pair_parameters, index, rest, lowest)?;
             if is_bit_set(index, beside.len()) {
                 H::compress(alloc, pair_parameters, first, &below)
             } else {

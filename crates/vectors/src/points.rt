@@ -19,7 +19,7 @@ fn word_at(bytes: &[u8; 32], from: usize) -> u64
 }
 
 // The coordinate as 32 bytes, the least first.
-fn coordinate(alloc: Global, x: Bls12_381Fr) -> Result<String, Error> {
+fn coordinate_text(alloc: Global, x: Bls12_381Fr) -> Result<String, Error> {
     let mut bytes = [0; 32];
     x.write_low_bytes(&mut bytes);
     hex_word(alloc, &bytes)
@@ -37,8 +37,8 @@ pub fn multiple_of(alloc: Global, word: &str) -> Result<Option<String>, Error> {
         w3: word_at(&number, 24),
     };
     let multiple = Jubjub::generator().mul(number);
-    let x = coordinate(alloc, multiple.x())?;
-    let y = coordinate(alloc, multiple.y())?;
+    let x = coordinate_text(alloc, multiple.x())?;
+    let y = coordinate_text(alloc, multiple.y())?;
     let bytes = hex_word(alloc, &multiple.to_compressed())?;
     Ok(Some(format!(in alloc; "{x} {y} {bytes}")?))
 }
@@ -50,8 +50,8 @@ pub fn element_answer(alloc: Global, word: &str) -> Result<Option<String>, Error
     };
     match Jubjub::from_compressed(&bytes) {
         Ok(element) => {
-            let x = coordinate(alloc, element.x())?;
-            let y = coordinate(alloc, element.y())?;
+            let x = coordinate_text(alloc, element.x())?;
+            let y = coordinate_text(alloc, element.y())?;
             Ok(Some(format!(in alloc; "{x} {y}")?))
         }
         Err(fault) => Ok(Some(String::from_str(alloc, fault_name(fault))?)),

@@ -14,7 +14,7 @@ use ark_merkle::{Config, LeafParam, MultiPath, Path, TwoToOneParam, Views};
 use std::alloc::Global;
 
 /// Returns what a multi-proof says of these leaves.
-pub fn multi_verdict<P: Config>(
+pub fn plain_multi_verdict<P: Config>(
     alloc: Global,
     leaf_parameters: &LeafParam<P>,
     pair_parameters: &TwoToOneParam<P>,

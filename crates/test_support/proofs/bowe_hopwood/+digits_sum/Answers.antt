@@ -26,13 +26,13 @@ returns-then-min-eq0 g t c = c.zero.ensures ∙ none _ c.args.elements.now c.arg
 
 pub returns : goal.returns
 returns g t c =
-    let fits : SFits w64 c.digit.result = search rules in
+    let fits : SFits w64 c.digit_of_bits.result = search rules in
     c.add.ensures ∙ rw (
       c.signed_times.ensures,
       to_z-of_z,
       c.digits_sum.ensures,
-      c.behind.ensures,
-      c.behind-2.ensures,
-      c.digit.ensures,
+      c.items_behind.ensures,
+      c.items_behind-2.ensures,
+      c.digit_of_bits.ensures,
     ) (first g.G.AdditiveGroup.group c.args.elements.now c.args.chunks.now c.index-elements-0.result
     (omega arith) c.index-elements-0.is)

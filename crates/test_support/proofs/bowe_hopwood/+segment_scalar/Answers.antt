@@ -53,18 +53,18 @@ returns-then-is_empty t c = none c.args.chunks.now (eqb-true _ 0 (sym c.is_empty
 
 pub overflow_mul-result : goal.overflow_mul-result
 overflow_mul-result t c =
-    product-fits _ _ _ (parts c.args.chunks.now c.behind.result.now c.digit.result c.segment_scalar.result
-    (sym c.is_empty.ensures ∙ c.if-is_empty.false) c.requires c.behind.ensures (search rules) (search rules)
-    c.digit.ensures c.segment_scalar.ensures)
+    product-fits _ _ _ (parts c.args.chunks.now c.items_behind.result.now c.digit_of_bits.result c.segment_scalar.result
+    (sym c.is_empty.ensures ∙ c.if-is_empty.false) c.requires c.items_behind.ensures (search rules) (search rules)
+    c.digit_of_bits.ensures c.segment_scalar.ensures)
 
 pub overflow_add-result : goal.overflow_add-result
 overflow_add-result t c =
-    sum-fits _ _ _ (parts c.args.chunks.now c.behind.result.now c.digit.result c.segment_scalar.result
-    (sym c.is_empty.ensures ∙ c.if-is_empty.false) c.requires c.behind.ensures (search rules) (search rules)
-    c.digit.ensures c.segment_scalar.ensures)
+    sum-fits _ _ _ (parts c.args.chunks.now c.items_behind.result.now c.digit_of_bits.result c.segment_scalar.result
+    (sym c.is_empty.ensures ∙ c.if-is_empty.false) c.requires c.items_behind.ensures (search rules) (search rules)
+    c.digit_of_bits.ensures c.segment_scalar.ensures)
 
 pub returns : goal.returns
 returns t c =
-    sum-is _ _ _ (parts c.args.chunks.now c.behind.result.now c.digit.result c.segment_scalar.result
-    (sym c.is_empty.ensures ∙ c.if-is_empty.false) c.requires c.behind.ensures (search rules) (search rules)
-    c.digit.ensures c.segment_scalar.ensures)
+    sum-is _ _ _ (parts c.args.chunks.now c.items_behind.result.now c.digit_of_bits.result c.segment_scalar.result
+    (sym c.is_empty.ensures ∙ c.if-is_empty.false) c.requires c.items_behind.ensures (search rules) (search rules)
+    c.digit_of_bits.ensures c.segment_scalar.ensures)

@@ -33,8 +33,8 @@ returns g t c =
       c.signed_times.ensures,
       to_z-of_z,
       c.segments_sum.ensures,
-      c.behind.ensures,
-      c.behind-2.ensures,
+      c.items_behind.ensures,
+      c.items_behind-2.ensures,
       c.segment_scalar-scalar.ensures,
       c.front.ensures,
     ) (first g.G.AdditiveGroup.group c.args.size c.args.elements.now

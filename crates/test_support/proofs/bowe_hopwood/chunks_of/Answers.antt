@@ -22,10 +22,10 @@ loop-rest-preserved c =
     let some = eqb-false _ 0 (sym c.is_empty.ensures ∙ c.loop-rest-test.true) in
     rw (
       c.in_ok-push.ensures.items,
-      c.behind-rest.ensures,
-      c.bit_at.ensures,
-      c.bit_at-in-loop-rest.ensures,
-      c.bit_at-in-loop-rest-2.ensures,
+      c.items_behind-rest.ensures,
+      c.bit_in.ensures,
+      c.bit_in-in-loop-rest.ensures,
+      c.bit_in-in-loop-rest-2.ensures,
     ) (step c.loop-rest.chunks.items _ c.loop-rest.rest.now (omega (arith, some))
     c.loop-rest.invariant)
 

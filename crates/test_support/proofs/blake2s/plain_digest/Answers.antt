@@ -1,7 +1,7 @@
 use Rattle.std.proofs.Common.{◌≡◌, ◌∙◌, arith, ap, length, refl}
 use Rattle.ark_schemes.specs.Blake2s.{blocks, state_bytes, blake2s_with}
 use Rattle.ark_schemes.proofs.Texts.{length-blocks}
-use Rattle.test_support.proofs.blake2s.digest.Goals as goal
+use Rattle.test_support.proofs.blake2s.plain_digest.Goals as goal
 
 pub hash_blocks-h-requires-clause-some : goal.hash_blocks-h-requires-clause-some
 hash_blocks-h-requires-clause-some c =
