@@ -8,3 +8,6 @@ pub mod Tests
 pub mod KeyTexts
 pub mod CheckpointTexts
 pub mod Cosigning
+pub mod Counted
+pub mod Opened
+pub mod Known

@@ -6,6 +6,7 @@ pub mod Writing
 pub mod Keys
 pub mod Cosignatures
 pub mod Verifying
+pub mod Counting
 pub mod Opening
 pub mod Checkpoints
 pub mod Views

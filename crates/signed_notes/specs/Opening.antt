@@ -1,20 +1,17 @@
--- Checkpoints that are opened: signed by their log, and by so many witnesses.
-use Rattle.std.specs.Prelude.{◌≡◌, ◌⊎◌, ℕ, ◌<◌, ◌≤◌, Bool, true, false, List, All, count_by, Result, Ok, Err}
+-- Checkpoints that are opened: signed by their log, and by so many keys of witnesses.
+use Rattle.std.specs.Prelude.{◌≡◌, ◌⊎◌, ℕ, ◌<◌, ◌≤◌, true, false, List, All, Result, Ok, Err}
 use Rattle.std.specs.List.{list_any}
 use Rattle.std.specs.Str.{bytes_eq}
 use Rattle.ark_base.specs.Outcome.{◌>>=◌}
+use Rattle.signed_notes.specs.Counting.{key_count}
 use Rattle.signed_notes.specs.Checkpoints.{CheckpointParts, read_checkpoint}
 use Rattle.signed_notes.specs.Faults.{only_where}
 use Rattle.signed_notes.specs.Keys.{KeyParts}
 use Rattle.signed_notes.specs.Notes.{NoteParts}
 use Rattle.signed_notes.specs.Reading.{read_note}
-use Rattle.signed_notes.specs.Verifying.{AreTrue, IsTrueOf, accepted_by, is_named}
+use Rattle.signed_notes.specs.Verifying.{AreTrue, IsTrueOf, is_named}
 use Rattle.signed_notes.specs.declared.fault.Fault.{Fault}
 use Rattle.signed_notes.specs.declared.fault.Fault.TheVariants.{BadSignature, FewWitnesses, Memory, OtherOrigin, UnknownKey}
-
--- how many tests are true
-abbrev pub count_true : List Bool → ℕ
-count_true tests = count_by (λ test. test) tests
 
 -- a checkpoint of this origin alone
 abbrev pub of_origin : List ℕ → CheckpointParts → Result CheckpointParts Fault
@@ -24,19 +21,19 @@ of_origin origin c = only_where (bytes_eq c.origin origin) OtherOrigin (Ok c)
 abbrev pub checkpoint_by : List ℕ → List ℕ → Result CheckpointParts Fault
 checkpoint_by origin text = read_checkpoint text >>= of_origin origin
 
--- Who has to sign a checkpoint: its log, and as many of some witnesses as the quorum says.
+-- Who has to sign a checkpoint: its log, and as many keys of some witnesses as the quorum says.
 pub record Policy : Type 0 where
   pub log : KeyParts
   pub witnesses : List KeyParts
   pub quorum : ℕ
 
--- The log signed the note, and as many witnesses as are asked for; no signature that names one of these keys is
--- another's.
+-- The log signed the note, and as many keys of the witnesses as are asked for, each counted once; no signature that
+-- names one of these keys is another's.
 pub record IsWitnessed (p : Policy) (note : NoteParts) : Type 0 where
   pub by_log : list_any (is_named p.log) note.signatures ≡ true
   pub log_true : All (IsTrueOf p.log note.text) note.signatures
   pub witnesses_true : AreTrue p.witnesses note
-  pub enough : p.quorum ≤ count_true (accepted_by p.witnesses note.signatures)
+  pub enough : p.quorum ≤ key_count p.witnesses note.signatures
 
 -- a signature that names one of the keys is none by it
 abbrev pub IsFalse : Policy → NoteParts → Type 0
@@ -47,7 +44,7 @@ abbrev pub IsUnwitnessed : Policy → NoteParts → Fault → Type 0
 IsUnwitnessed p note fault =
     ((fault ≡ BadSignature) × IsFalse p note)
     ⊎ ((fault ≡ UnknownKey) × (list_any (is_named p.log) note.signatures ≡ false))
-    ⊎ ((fault ≡ FewWitnesses) × (count_true (accepted_by p.witnesses note.signatures) < p.quorum))
+    ⊎ ((fault ≡ FewWitnesses) × (key_count p.witnesses note.signatures < p.quorum))
 
 -- The bytes are a note that is signed as a policy asks, and its text is this checkpoint, of this origin.
 pub record IsOpened (p : Policy) (origin bytes : List ℕ) (c : CheckpointParts) : Type 0 where

@@ -1,8 +1,9 @@
 //! What is proved of notes. Each function is one theorem: its contract states it, and its body does nothing.
 
-ghost use Rattle.std.specs.Prelude.{◌≡◌, ◌∷◌, ℕ, Bool, List, Ok};
+ghost use Rattle.std.specs.Prelude.{◌≡◌, ◌∷◌, ℕ, Bool, List, All, Contains, Ok};
 ghost use Rattle.base64.specs.GeneralPurpose.{IsBytes};
 ghost use Rattle.signed_notes.specs.Checkpoints.{checkpoint_of, read_checkpoint, write_checkpoint, CheckpointParts, IsCheckpoint};
+ghost use Rattle.signed_notes.specs.Counting.{lists_key, keys_once, AreOtherKeys};
 ghost use Rattle.signed_notes.specs.Keys.{IsNoteKey, key_text, read_key, KeyParts};
 ghost use Rattle.signed_notes.specs.Notes.{AreSignatureBytes, IsNote, note_of, NoteParts};
 ghost use Rattle.signed_notes.specs.Reading.{read_note};
@@ -25,6 +26,14 @@ pub fn notes_are_written()
     ensures written { (note : NoteParts) → IsNote note → write_note note ≡ Ok (note_of note) }
     ensures read { (bytes : List ℕ) (note : NoteParts) → IsBytes bytes → read_note bytes ≡ Ok note
         → write_note note ≡ Ok bytes }
+{}
+
+/// States that of keys which are counted once no two are one, that each is one of the list, and that each of the list is there.
+pub fn keys_count_once()
+    ensures apart { (keys : List KeyParts) → AreOtherKeys (keys_once keys) }
+    ensures own { (keys : List KeyParts) → All (Contains keys) (keys_once keys) }
+    ensures same { (keys : List KeyParts) (key : KeyParts)
+        → lists_key (keys_once keys) key ≡ lists_key keys key }
 {}
 
 /// States that the text of a key is read as this key, whatever makes of its bytes those that are hashed.

@@ -3,6 +3,7 @@
 
 mod checkpoint;
 mod cosignature;
+mod counting;
 mod cutting;
 mod fault;
 mod keys;
@@ -18,11 +19,11 @@ pub use cosignature::{cosign, cosignature_of, sign_checkpoint};
 pub use fault::Fault;
 pub use keys::{Algorithm, Cosigner, Signer, Verifier, key_hash};
 pub use laws::{
-    checkpoints_are_read_back, checkpoints_have_one_spelling, keys_are_read_back,
+    checkpoints_are_read_back, checkpoints_have_one_spelling, keys_are_read_back, keys_count_once,
     keys_have_one_spelling, notes_are_read_back, notes_are_written, notes_have_one_spelling,
 };
 pub use note::{MOST_BYTES, MOST_SIGNATURES, Note, Signature, read};
 pub use opening::{Policy, open_checkpoint};
 pub use texts::{is_name, is_text};
 pub use verifying::{Verified, sign_note, signature_of, verify};
-pub use writing::write;
+pub use writing::{signature_line, write};

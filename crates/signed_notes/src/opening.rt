@@ -1,32 +1,26 @@
-//! Checkpoints that are opened: signed by their log, and by so many witnesses.
+//! Checkpoints that are opened: signed by their log, and by so many keys of witnesses.
 
 ghost use Rattle.std.specs.Prelude.{◌≡◌, ◌⊎◌, ◌≤◌, IfOk, IfErr, OnOk, List, ℕ, map};
 ghost use Rattle.signed_notes.specs.Faults.{NoteGivesBy};
-ghost use Rattle.signed_notes.specs.Opening.{checkpoint_by, count_true, IsClosed, IsOpened, IsUnwitnessed, IsWitnessed};
+ghost use Rattle.signed_notes.specs.Opening.{checkpoint_by, IsClosed, IsOpened, IsUnwitnessed, IsWitnessed};
 ghost use Rattle.signed_notes.specs.Views.{checkpoint_parts, note_parts, policy_parts};
 ghost use Rattle.signed_notes.specs.declared.fault.Fault.TheVariants.{Memory};
 
 use crate::checkpoint::Checkpoint;
+use crate::counting::signing_keys;
 use crate::fault::Fault;
 use crate::keys::Verifier;
 use crate::note::{Note, read};
-use crate::verifying::{accepted, any_by};
+use crate::verifying::any_by;
 use std::alloc::Global;
 
-/// Who has to sign a checkpoint: its log, and as many of some witnesses as the quorum says. A witness that is named twice
-/// counts twice.
+/// Who has to sign a checkpoint: its log, and as many keys of some witnesses as the quorum says. A key counts once, however
+/// often it is listed and whatever names it has there.
 #[derive(Clone, Copy)]
 pub struct Policy<'a> {
     pub log: Verifier<'a>,
     pub witnesses: &'a [Verifier<'a>],
     pub quorum: usize,
-}
-
-// How many tests are true.
-fn count_true(tests: &[bool]) -> usize
-    ensures { result ≡ count_true tests.now }
-{
-    tests.iter().filter(|test| **test).count()
 }
 
 // Refuses a note that is not signed as a policy asks.
@@ -40,8 +34,8 @@ fn witnessed(alloc: Global, note: &Note, policy: &Policy) -> Result<(), Fault>
         Ok(false) => return Err(Fault::UnknownKey),
         Err(fault) => return Err(fault),
     }
-    match accepted(alloc, policy.witnesses, note) {
-        Ok(all) if count_true(&all) >= policy.quorum => Ok(()),
+    match signing_keys(alloc, policy.witnesses, note) {
+        Ok(keys) if keys.len() >= policy.quorum => Ok(()),
         Ok(_) => Err(Fault::FewWitnesses),
         Err(fault) => Err(fault),
     }

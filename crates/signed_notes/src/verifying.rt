@@ -103,7 +103,7 @@ pub struct Verified<'a> {
 }
 
 // Of each known key, whether a signature is by it.
-pub(crate) fn accepted(alloc: Global, known: &[Verifier], note: &Note) -> Result<Vec<bool>, Fault>
+fn accepted(alloc: Global, known: &[Verifier], note: &Note) -> Result<Vec<bool>, Fault>
     ensures accepted { let signatures = (note_parts note.now).signatures in
         IfOk result (λ all. all.items ≡ accepted_by (map verifier_parts known.now) signatures) }
     ensures signed { OnOk result (AreTrue (map verifier_parts known.now) (note_parts note.now)) }

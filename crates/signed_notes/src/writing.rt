@@ -51,6 +51,17 @@ fn push_line(out: &mut Vec<u8>, alloc: Global, signature: &Signature) -> Result<
     Ok(())
 }
 
+/// Writes the line of a signature, with its line feed.
+///
+/// Errors, the first that applies: `Name`; `Short` without a byte. `Memory` at any time.
+pub fn signature_line(alloc: Global, signature: &Signature) -> Result<Vec<u8>, Fault>
+    ensures { NoteGivesBy vec_items (written_line (parts signature.now)) result }
+{
+    let mut line = Vec::new(alloc);
+    push_line(&mut line, alloc, signature)?;
+    Ok(line)
+}
+
 // Writes the lines of signatures behind other bytes.
 fn with_lines(alloc: Global, front: Vec<u8>, signatures: &[Signature]) -> Result<Vec<u8>, Fault>
     ensures { let lines = written_lines (map parts signatures.now) in
