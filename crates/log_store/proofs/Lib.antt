@@ -8,6 +8,8 @@ pub mod Laying
 pub mod LaidWrites
 pub mod Laid
 pub mod Losing
+pub mod Lying
+pub mod Sectoring
 pub mod Mixing
 pub mod Tearing
 pub mod Stages

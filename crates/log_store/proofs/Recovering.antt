@@ -1,8 +1,7 @@
 -- The file that is made of what is sound of another.
-use Rattle.std.proofs.Common.{◌≡◌, ◌⊎◌, ℕ, ◌+◌, ◌*◌, ◌<◌, ◌≤◌, ◌^◌, Bool, true, false, List, [], ◌++◌, length, take, drop, get_or, Some, Ok, refl, ap, sym, ◌∙◌, subst, append_assoc, ⊎_elim, inl, inr, arith}
-use Rattle.std.proofs.lemmas.Bool.{cases_lt, le-ltb}
-use Rattle.std.proofs.lemmas.List.{append-nil, drop-append-le, drop-drop, drop_all, drop_at, get_or-take, get_or_past, length-append, length-drop, length-take-le, take-take, take_all, take_at}
-use Rattle.std.proofs.Math.Nat.{max-eq_right}
+use Rattle.std.proofs.Common.{◌≡◌, ◌⊎◌, ℕ, ◌+◌, ◌*◌, ◌<◌, ◌≤◌, ◌^◌, Bool, true, false, List, [], ◌++◌, length, take, drop, get_or, replicate, Some, Ok, refl, ap, sym, ◌∙◌, subst, append_assoc, ⊎_elim, inl, inr, arith}
+use Rattle.std.proofs.lemmas.Bool.{le-ltb}
+use Rattle.std.proofs.lemmas.List.{append-nil, drop-append-le, drop-drop, drop_all, drop_at, get_or-replicate, get_or-take, length-append, length-drop, length-replicate, length-take-le, take-take, take_all, take_at}
 use Rattle.std.proofs.Math.Seq.{take-add}
 use Rattle.std.specs.Str.{bytes_eq}
 use Rattle.sha2.specs.Sha256.{sha256}
@@ -15,11 +14,11 @@ use Rattle.merkle_log.proofs.Positions.{no-count}
 use Rattle.log_file.specs.LogFile.{larger, slot, slot_fits, slot_size, title, written, IsLogFile}
 use Rattle.log_file.proofs.Files.{known, log-holds, slot-torn, stored-same, Holds}
 use Rattle.log_file.proofs.Heads.{eq_bytes, fits-size, is_headed, length-slot, same_bytes, slot-fits, HasHead, Uses}
-use Rattle.log_file.proofs.Pieces.{piece-before, piece-written}
 use Rattle.log_store.specs.Disk.{AreApart, Cut, LeavesMore, Leaves, Torn}
 use Rattle.log_store.specs.Sound.{HasStored}
-use Rattle.log_store.specs.Store.{new_head, IsHeadless, IsEmpty, IsPartOf, IsSettled}
+use Rattle.log_store.specs.Store.{IsAllFresh, IsHeadless, IsNewFile, IsSettled, LeavesJust}
 use Rattle.log_store.proofs.Sounding.{front-of, none-hashed}
+use Rattle.log_store.proofs.Writes.{cut-whole, piece-of}
 
 -- ---- a copy
 
@@ -47,14 +46,20 @@ copied-more file new bytes done more so is inside =
           ∙ sym (take-add done more (drop 96 file));
     })
 
--- Nothing was copied behind a head that was put to a file without a byte.
-pub copied-none : (file old head : List ℕ) → old ≡ [] → length head ≡ 96 → IsCopied file (written old 0 head) 0
-copied-none file old head none long =
-    let is : written old 0 head ≡ head = put-behind old head 0 (ap length none) ∙ ap (λ l. l ++ head) none in
-    rw (is) (record {
-      long = omega (arith, long);
-      same = drop_all 96 head (omega (arith, long));
-    })
+-- Nothing was copied behind zeros in the place of a head.
+pub copied-none : (file new : List ℕ) → new ≡ replicate 96 0 → IsCopied file new 0
+copied-none file new is = record {
+  long = ap length is ∙ zeros-long;
+  same = drop_all 96 new (omega (arith, ap length is, zeros-long));
+}
+  where
+    zeros-long : length (replicate {A = ℕ} 96 0) ≡ 96
+    zeros-long = length-replicate {A = ℕ} 96 0
+
+-- Zeros were put to a file without a byte.
+pub zeros-put : (old new : List ℕ) → old ≡ [] → new ≡ written old 0 (replicate 96 0) → new ≡ replicate 96 0
+zeros-put old new none is = is ∙ put-behind old (replicate 96 0) 0 (ap length none)
+    ∙ ap (λ l. l ++ replicate 96 0) none
 
 -- how long a file at least is once something was written
 pub length-grown : (file bytes : List ℕ) (at : ℕ) → at ≤ length file → at + length bytes ≤ length
@@ -66,67 +71,54 @@ length-grown file bytes at inside = omega (
   length-take-le at file inside,
 )
 
--- What was put to a file so far is fresh, and no byte stands behind it.
-pub record IsPut (fresh : ℕ → List ℕ → Type 0) (may_leave : List ℕ → Type 0) (file : List ℕ) (done : ℕ) : Type 0 where
-  pub no_longer : (left : List ℕ) → may_leave left → length left ≤ done
-  pub put : (left : List ℕ) → ((at : ℕ) (bytes : List ℕ) → at + length bytes ≤ done → fresh at bytes
-      → take (length bytes) (drop at left) ≡ bytes) → take done left ≡ take done file
-
--- of a file that has no byte
-pub put-none : (fresh : ℕ → List ℕ → Type 0) (may_leave : List ℕ → Type 0) (file : List ℕ) → IsEmpty may_leave
-    → IsPut fresh may_leave file 0
-put-none fresh may_leave file empty = record {
-  no_longer = λ left now. omega (arith, ap length (empty left now));
-  put = λ left has. refl;
-}
+-- ---- what is fresh
 
 -- a piece more
-pub put-more : (old_fresh fresh : ℕ → List ℕ → Type 0) (old_may may_leave : List ℕ → Type 0) (file bytes : List ℕ)
-    (done : ℕ) → length file ≡ done → IsPut old_fresh old_may file done
+pub fresh-more : (old_fresh fresh : ℕ → List ℕ → Type 0) (old_may may_leave : List ℕ → Type 0) (file bytes : List ℕ)
+    (done : ℕ) → length file ≡ done → IsAllFresh old_fresh old_may file
     → LeavesMore (Torn done bytes) old_may may_leave → fresh done bytes
     → ((place : ℕ) (earlier : List ℕ) → AreApart place (length earlier) done (length bytes) → old_fresh place earlier
-    → fresh place earlier) → IsPut fresh may_leave (written file done bytes) (done + length bytes)
-put-more old_fresh fresh old_may may_leave file bytes done long so follows new apart = record {
-  no_longer = λ left now. let from = follows left now in omega (
-    arith,
-    so.no_longer from.0 from.1,
-    from.2.cut.no_longer,
-    max-eq_right {n = length from.0} {m = done + length bytes} (omega (arith, so.no_longer from.0 from.1)),
-  );
-  put = λ left has. take-add done (length bytes) left
-      ∙ ap (λ l. l ++ take (length bytes) (drop done left)) (so.put left (λ at piece le old.
-      has at piece (omega (arith, le)) (apart at piece (inl le) old)))
-      ∙ ap (λ l. take done file ++ l) (has done bytes (omega arith) new)
-      ∙ sym (take-add done (length bytes) (written file done bytes)
-      ∙ ap (λ l. l ++ take (length bytes) (drop done (written file done bytes)))
-      (piece-before file bytes done 0 done (omega arith) (omega (arith, long)))
-      ∙ ap (λ l. take done file ++ l) (piece-written file bytes done (length bytes) refl (omega (arith, long))));
-}
+    → fresh place earlier) → IsAllFresh fresh may_leave (written file done bytes)
+fresh-more old_fresh fresh old_may may_leave file bytes done long so follows new apart = λ left now has.
+    let from = follows left now in
+    let grown = length-grown file bytes done (omega (arith, long)) in
+    let same : from.0 ≡ file = so from.0 from.1 (λ at piece le old.
+    sym (piece-of done at (length piece) left from.0 (omega (arith, le, long)) from.2.cut.before)
+    ∙ has at piece (omega (arith, le, long, grown)) (apart at piece (inl (omega (arith, le, long))) old)) in
+    cut-whole done bytes from.0 left from.2.cut (has done bytes (omega (arith, grown)) new)
+    ∙ ap (λ f. written f done bytes) same
 
--- All that is fresh was synced: a crash leaves what is read.
-pub put-synced : (fresh : ℕ → List ℕ → Type 0) (old_may may_leave : List ℕ → Type 0) (file : List ℕ) (done : ℕ)
-    → length file ≡ done → IsPut fresh old_may file done → ((left : List ℕ) → may_leave left → old_may left)
-    → ((at : ℕ) (bytes : List ℕ) → fresh at bytes → Leaves at bytes may_leave) → (left : List ℕ) → may_leave left
-    → left ≡ file
-put-synced fresh old_may may_leave file done long so less durable left now =
-    sym (take_all done left (so.no_longer left (less left now)))
-    ∙ so.put left (λ at bytes le is. durable at bytes is left now) ∙ take_all done file (omega (arith, long))
+-- Once it was synced a crash leaves what is read.
+pub fresh-synced : (fresh : ℕ → List ℕ → Type 0) (old_may may_leave : List ℕ → Type 0) (file : List ℕ)
+    → IsAllFresh fresh old_may file → ((left : List ℕ) → may_leave left → old_may left)
+    → ((at : ℕ) (bytes : List ℕ) → fresh at bytes → Leaves at bytes may_leave) → LeavesJust file may_leave
+fresh-synced fresh old_may may_leave file so less durable = λ left now.
+    so left (less left now) (λ at bytes le is. durable at bytes is left now)
 
 -- ---- no head
 
 -- zeros that are written to a file that has no byte, and what stands behind a head
-pub blank-begun : (before left zeros : List ℕ) → before ≡ [] → ((i : ℕ) → i < 96 → get_or zeros i 0 ≡ 0)
-    → length zeros ≡ 96 → Torn 0 zeros before left → IsHeadless left
-blank-begun before left zeros none zero long torn = λ i less. ⊎_elim
-    (λ old. old ∙ ap (λ l. get_or l i 0) none) (λ new. new ∙ zero i less) (torn.mixed i (omega (arith, long, less)))
+pub blank-begun : (before left : List ℕ) → before ≡ [] → Torn 0 (replicate 96 0) before left → IsHeadless left
+blank-begun before left none torn = λ i less. ⊎_elim (λ old. old ∙ ap (λ l. get_or l i 0) none)
+    (λ new. new ∙ get_or-replicate 96 i 0 0 less)
+    (torn.mixed i (omega (arith, less, length-replicate {A = ℕ} 96 0)))
 
 pub blank-behind : (at n : ℕ) (before left : List ℕ) → 96 ≤ at → IsHeadless before → Cut at n before left → IsHeadless
     left
 blank-behind at n before left ge blank cut = λ i less. let low : i < at = omega (arith, ge, less) in
     sym (get_or-take at left i 0 low) ∙ ap (λ l. get_or l i 0) cut.before ∙ get_or-take at before i 0 low ∙ blank i less
 
-pub blank-empty : (file : List ℕ) → file ≡ [] → IsHeadless file
-blank-empty file none = λ i less. ap (λ l. get_or l i 0) none
+pub new-none : (file : List ℕ) → IsNewFile file → length file ≡ 0 → file ≡ []
+new-none file (inl none) short = none
+new-none file (inr zeros) short = absurd (omega (arith, short, ap length zeros, length-replicate {A = ℕ} 96 0))
+
+pub new-zeros : (file : List ℕ) → IsNewFile file → (length file ≡ 0 → ⊥) → file ≡ replicate 96 0
+new-zeros file (inl none) some = absurd (some (ap length none))
+new-zeros file (inr zeros) some = zeros
+
+pub blank-new : (file left : List ℕ) → IsNewFile file → left ≡ file → IsHeadless left
+blank-new file left (inl none) is = λ i less. ap (λ l. get_or l i 0) (is ∙ none)
+blank-new file left (inr zeros) is = λ i less. ap (λ l. get_or l i 0) (is ∙ zeros) ∙ get_or-replicate 96 i 0 0 less
 
 -- A head that is cut short leaves what stands behind it.
 pub head-behind : (head before left : List ℕ) (size : ℕ) (root : Digest)
@@ -316,46 +308,6 @@ settled-by leaves root file copy head size count has long fits top is count_is s
     (same ∙ ap (λ n. take (32 * n) (drop 96 file)) (count_is ∙ ap stored_count (sym long)))
 
 -- ---- a new log
-
--- A part of a head over which the head is written, and that is cut short, is a part of it still.
-pub part-torn : (before left : List ℕ) → IsPartOf new_head before → Torn 0 new_head before left
-    → IsPartOf new_head left
-part-torn before left part torn = record {
-  short = omega (
-    arith,
-    torn.cut.no_longer,
-    max-eq_right {n = length before} {m = 0 + length new_head}
-        (omega (arith, part.short, new-long)),
-    new-long,
-  );
-  bytes = λ n less. ⊎_elim (old n) (λ new. inl new) (torn.mixed n (omega (
-    arith,
-    new-long,
-    less,
-    torn.cut.no_longer,
-    max-eq_right {n = length before} {m = 0 + length new_head}
-        (omega (arith, part.short, new-long)),
-  )));
-}
-  where
-    title_long : length title ≡ 32
-    title_long = refl
-
-    new-long : length new_head ≡ 96
-    new-long = omega (
-      arith,
-      length-append title (slot 0 (sha256 []) ++ slot 0 (sha256 [])),
-      length-append (slot 0 (sha256 [])) (slot 0 (sha256 [])),
-      length-slot 0 (sha256 []),
-      title_long,
-    )
-
-    old : (n : ℕ) → get_or left n 0 ≡ get_or before n 0
-        → (get_or left n 0 ≡ get_or new_head n 0) ⊎ (get_or left n 0 ≡ 0)
-    old n same = elim (cases_lt n (length before)) [
-      | inl within ↦ ⊎_elim (λ head. inl (same ∙ head)) (λ zero. inr (same ∙ zero)) (part.bytes n within)
-      | inr past ↦ inr (same ∙ get_or_past before n 0 past)
-    ]
 
 -- a head before nothing
 pub new-settled : (head file : List ℕ) → head ≡ title ++ (slot 0 (sha256 []) ++ slot 0 (sha256 [])) → file ≡ []

@@ -1,7 +1,8 @@
 -- A log's file whose two slots lie in different sectors, 4,096 bytes apart.
-use Rattle.std.specs.Prelude.{◌≡◌, ◌⊎◌, ℕ, ◌+◌, ◌≤◌, ◌++◌, nat_lt, List, length, take, drop, if◌then◌else◌, codes, replicate}
+use Rattle.std.specs.Prelude.{◌≡◌, ◌⊎◌, ℕ, ◌+◌, ◌≤◌, ◌++◌, ◌||◌, nat_lt, Bool, List, [], length, take, drop, if◌then◌else◌, codes, replicate}
 use Rattle.std.specs.Str.{bytes_eq}
-use Rattle.log_file.specs.LogFile.{slot_front, title}
+use Rattle.sha2.specs.Sha256.{sha256}
+use Rattle.log_file.specs.LogFile.{first_word, slot, slot_front, title}
 use Rattle.log_store.specs.declared.sectors.Layout.{Layout}
 use Rattle.log_store.specs.declared.sectors.Own.{Own}
 use Rattle.log_store.specs.declared.sectors.Own.TheVariants.{At, Nowhere, Start}
@@ -98,3 +99,44 @@ IsWholeSlot slot = (size : ℕ) × (take 20 slot ≡ slot_front size)
 -- In the place of a second slot's sector stands its title, or a slot behind it that is whole.
 abbrev pub HasSecond : List ℕ → Type 0
 HasSecond file = (take 32 (drop 4096 file) ≡ sector_title) ⊎ IsWholeSlot (take 32 (drop 4128 file))
+
+-- whether a slot is whole: its first 20 bytes are the front of the size that its first eight say
+abbrev pub is_whole : List ℕ → Bool
+is_whole slot = bytes_eq (take 20 slot) (slot_front (first_word slot))
+
+-- whether a sector that begins so is that of a slot: it has its title, or a slot behind it that is whole
+abbrev pub is_sector : List ℕ → Bool
+is_sector start = bytes_eq (take 32 start) sector_title || is_whole (drop 32 start)
+
+-- how a file lies whose first two sectors begin with these 64 bytes each
+abbrev pub layout_by : List ℕ → List ℕ → Layout
+layout_by first second =
+    if bytes_eq (take 32 first) sector_title then Apart
+    else if bytes_eq (take 32 first) title then Dense
+    else if is_sector second then SecondAlone
+    else Dense
+
+-- how a file lies, as its bytes say
+abbrev pub layout_in : List ℕ → Layout
+layout_in file =
+    if nat_lt (length file) 8192 then Dense else layout_by (part_at 0 64 file) (part_at 4096 64 file)
+
+-- the zeros behind a slot, up to the end of its sector
+unfoldable pub sector_rest : List ℕ
+sector_rest = replicate 4032 0
+
+-- a sector with a slot: its title, the slot, and zeros
+abbrev pub sector_of : List ℕ → List ℕ
+sector_of slot = sector_title ++ (slot ++ sector_rest)
+
+-- the two sectors of a log of no entries
+abbrev pub sectors_head : List ℕ
+sectors_head = sector_of (slot 0 (sha256 [])) ++ sector_of (slot 0 (sha256 []))
+
+-- a sector of zeros
+unfoldable pub blank_sector : List ℕ
+blank_sector = replicate 4096 0
+
+-- the two sectors of a file before it has a slot: the second one has its title
+abbrev pub blank_sectors : List ℕ
+blank_sectors = blank_sector ++ sector_of (replicate 32 0)

@@ -1,5 +1,5 @@
 -- What a log's file is after an append that was cut short, and after one that returned.
-use Rattle.std.specs.Prelude.{◌≡◌, ◌≢◌, ◌⊎◌, ◌<◌, ◌≤◌, ◌*◌, ◌^◌, ℕ, Bool, List, [], ◌++◌, length, take, drop, get_or, Some}
+use Rattle.std.specs.Prelude.{◌≡◌, ◌≢◌, ◌⊎◌, ◌<◌, ◌≤◌, ◌+◌, ◌*◌, ◌^◌, ℕ, Bool, List, [], ◌++◌, length, take, drop, get_or, replicate, Some}
 use Rattle.sha2.specs.Sha256.{sha256}
 use Rattle.ark_paths.specs.Pair.{Digest}
 use Rattle.merkle_log.specs.Stored.{stored_count}
@@ -13,7 +13,7 @@ new_head = title ++ (slot 0 (sha256 []) ++ slot 0 (sha256 []))
 
 -- The file has no more than a part of a head: no byte behind it, and each byte is that of the head or zero.
 pub record IsPartOf (head file : List ℕ) : Type 0 where
-  pub short : length file ≤ 96
+  pub short : length file ≤ length head
   pub bytes : (n : ℕ) → n < length file → (get_or file n 0 ≡ get_or head n 0) ⊎ (get_or file n 0 ≡ 0)
 
 -- A head was being written, one slot after the other: the title and the first slot were cut short, or these stand
@@ -25,6 +25,20 @@ TornInTurn head old left = Torn 0 (take 64 head) old left
 -- A crash leaves a file that has no byte.
 abbrev pub IsEmpty : (List ℕ → Type 0) → Type 0
 IsEmpty may_leave = (left : List ℕ) → may_leave left → left ≡ []
+
+-- A crash leaves just this file.
+abbrev pub LeavesJust : List ℕ → (List ℕ → Type 0) → Type 0
+LeavesJust file may_leave = (left : List ℕ) → may_leave left → left ≡ file
+
+-- So it does once what is fresh is on the disk.
+abbrev pub IsAllFresh : (ℕ → List ℕ → Type 0) → (List ℕ → Type 0) → List ℕ → Type 0
+IsAllFresh fresh may_leave file = (left : List ℕ) → may_leave left
+    → ((at : ℕ) (bytes : List ℕ) → at + length bytes ≤ length file → fresh at bytes
+    → take (length bytes) (drop at left) ≡ bytes) → left ≡ file
+
+-- The file has no byte, or no more than zeros in the place of the head.
+abbrev pub IsNewFile : List ℕ → Type 0
+IsNewFile file = (file ≡ []) ⊎ (file ≡ replicate 96 0)
 
 -- In the place of the head the file has zeros or no byte.
 abbrev pub IsHeadless : List ℕ → Type 0

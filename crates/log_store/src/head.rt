@@ -22,6 +22,15 @@ fn has_front(size: usize, count: usize) -> bool
     is_size(size) && stored_count(size) <= count
 }
 
+// Returns how long a file is now, which was so long before: others may have appended to it since.
+fn length_again<D: Disk>(disk: &D, before: usize) -> Result<usize, D::Refusal>
+    ensures length { D.Obeys disk.now → before ≡ length (D.seen disk.now)
+        → IfOk result (λ count. count ≡ length (D.seen disk.now)) }
+    ensures longer { IfOk result (λ count. before ≤ count) }
+{
+    Ok(disk.length()?.max(before))
+}
+
 /// The head of a log's file, and its bytes.
 #[derive(Clone, Copy)]
 pub struct ReadHead {
@@ -29,7 +38,7 @@ pub struct ReadHead {
     pub bytes: [u8; START],
 }
 
-/// Reads the head of a log's file.
+/// Reads the head of a log's file, and then how long the file is: digests are written before a head that says their size.
 ///
 /// Errors: `NoLog`; `Head`; `Short`, also for a size of over 63 bits; the disk's refusal.
 pub fn read_head<D: Disk>(disk: &D) -> Result<ReadHead, Stop<D::Refusal>>
@@ -60,7 +69,11 @@ pub fn read_head<D: Disk>(disk: &D) -> Result<ReadHead, Stop<D::Refusal>>
     let Some(head) = head_in(&bytes) else {
         return Err(Stop::Fault(fault_without_head(&bytes)));
     };
-    if !has_front(head.size, (count - START) / 32) {
+    let again = match length_again(disk, count) {
+        Ok(again) => again,
+        Err(refusal) => return Err(Stop::Disk(refusal)),
+    };
+    if !has_front(head.size, (again - START) / 32) {
         return Err(Stop::Fault(Fault::Short));
     }
     Ok(ReadHead { head, bytes })

@@ -1,19 +1,19 @@
 //! How a log's file lies on its disk, as its first two sectors say.
 
-ghost use Rattle.std.specs.Prelude.{◌≡◌, ◌⊎◌, ◌≤◌, ◌<◌, ℕ, List, true, length, take, drop, IfOk};
+ghost use Rattle.std.specs.Prelude.{◌≡◌, ◌⊎◌, ◌≤◌, ◌<◌, ◌+◌, ℕ, List, nat_lt, length, take, if◌then◌else◌, IfOk};
 ghost use Rattle.ark_paths.specs.Pair.{Digest};
-ghost use Rattle.log_store.specs.Sectors.{laid, sector_title, HasSecond, IsWholeSlot};
+ghost use Rattle.log_store.specs.Sectors.{is_sector, is_whole, laid, layout_by, layout_in, part_at, sector_title, HasSecond};
 ghost use Rattle.log_store.specs.Store.{IsSettled, SaysLarger};
 ghost use Rattle.log_store.specs.declared.sectors.Layout.TheVariants.{Apart, Dense, FirstAlone, SecondAlone};
 ghost use Rattle.log_file.specs.LogFile.{title, IsLogFile};
 
 use crate::disk::Disk;
-use crate::sectors::{DIGESTS, Layout, SECTOR, is_titled, slot_of};
+use crate::sectors::{DIGESTS, Layout, SECTOR, is_titled, slot_behind_title};
 use log_file::head::{front_of, has_title};
 
 // Whether a slot is whole.
 fn is_whole(slot: &[u8; 32]) -> bool
-    ensures { result ≡ true → IsWholeSlot slot.now }
+    ensures { result ≡ is_whole slot.now }
 {
     let mut word = [0; 8];
     word.copy_from_slice(&slot[..8]);
@@ -22,44 +22,71 @@ fn is_whole(slot: &[u8; 32]) -> bool
     front == front_of(usize::from_le_bytes(word))
 }
 
-// Whether the sector of the second slot is one: it has its title, or a slot that is whole.
-fn has_second<D: Disk>(disk: &D) -> Result<bool, D::Refusal>
-    ensures { D.Obeys disk.now → 8192 ≤ length (D.seen disk.now)
-        → IfOk result (λ second. second ≡ true → HasSecond (D.seen disk.now)) }
+// Whether a sector that begins so is that of a slot: it has its title, or a slot behind it that is whole.
+fn is_sector(start: &[u8; 64]) -> bool
+    ensures { result ≡ is_sector start.now }
 {
-    let mut second = [0; 64];
-    disk.read_at(SECTOR, &mut second)?;
-    if is_titled(&second) {
-        return Ok(true);
-    }
-    Ok(is_whole(&slot_of(&second)))
+    is_titled(start) || is_whole(&slot_behind_title(start))
 }
 
-// How a file lies whose first sector has the title of such a sector.
-fn titled_layout<D: Disk>(disk: &D) -> Layout
-    ensures { (result ≡ Apart) ⊎ (result ≡ FirstAlone) }
+// How a file lies whose first two sectors begin so.
+fn layout_by(first: &[u8; 64], second: &[u8; 64]) -> Layout
+    ensures { result ≡ layout_by first.now second.now }
 {
-    match disk.read_at(SECTOR, &mut [0; 64]) {
-        Ok(()) => Layout::Apart,
-        Err(_) => Layout::FirstAlone,
+    if is_titled(first) {
+        return Layout::Apart;
     }
-}
-
-// How a file lies whose first sector has another title.
-fn untitled_layout<D: Disk>(disk: &D, first: &[u8; 64]) -> Layout
-    ensures { take 32 first.now ≡ title → result ≡ Dense }
-{
     if has_title(first) {
         return Layout::Dense;
     }
-    match has_second(disk) {
-        Ok(true) => Layout::SecondAlone,
-        _ => Layout::Dense,
+    if is_sector(second) {
+        Layout::SecondAlone
+    } else {
+        Layout::Dense
     }
 }
 
-/// Returns how a log's file lies on its disk. A sector whose read is refused counts as lost, where the other one is there: it
-/// has its title, or, of the second slot, a slot that is whole.
+/// Returns how a log's file of so many bytes lies whose first two sectors, 4,096 bytes each, begin with these 64 bytes. Zeros stand for
+/// bytes behind its end; of a file of fewer than 8,192 bytes no byte matters.
+pub fn layout_of_parts(count: usize, first: &[u8; 64], second: &[u8; 64]) -> Layout
+    ensures parts { result
+        ≡ (if nat_lt count 8192 then Dense else layout_by first.now second.now) }
+
+    // It is the one that the file's bytes say.
+    ensures file { (file : List ℕ) → count ≡ length file → first.now ≡ part_at 0 64 file
+        → second.now ≡ part_at 4096 64 file → result ≡ layout_in file }
+{
+    if count < DIGESTS {
+        Layout::Dense
+    } else {
+        layout_by(first, second)
+    }
+}
+
+// How a file lies whose first sector begins so, and whose second one is not read.
+fn layout_by_first(first: &[u8; 64]) -> Layout
+    ensures titled { take 32 first.now ≡ sector_title → result ≡ FirstAlone }
+    ensures older { take 32 first.now ≡ title → result ≡ Dense }
+{
+    if is_titled(first) {
+        Layout::FirstAlone
+    } else {
+        Layout::Dense
+    }
+}
+
+// How a sector of a file begins.
+fn sector_start<D: Disk>(disk: &D, place: usize) -> Result<[u8; 64], D::Refusal>
+    ensures { D.Obeys disk.now → place + 64 ≤ length (D.seen disk.now)
+        → IfOk result (λ start. start ≡ part_at place 64 (D.seen disk.now)) }
+{
+    let mut start = [0; 64];
+    disk.read_at(place, &mut start)?;
+    Ok(start)
+}
+
+/// Returns how a log's file lies on its disk: as its bytes say (`layout_of_parts`). A sector whose read is refused counts as lost,
+/// where the other one is there: it has its title, or, of the second slot, a slot that is whole.
 ///
 /// The error is the disk's refusal.
 pub fn layout_of<D: Disk>(disk: &D) -> Result<Layout, D::Refusal>
@@ -76,19 +103,17 @@ pub fn layout_of<D: Disk>(disk: &D) -> Result<Layout, D::Refusal>
     ensures short { D.Obeys disk.now → length (D.seen disk.now) < 8192
         → IfOk result (λ layout. layout ≡ Dense) }
 {
-    if disk.length()? < DIGESTS {
+    let count = disk.length()?;
+    if count < DIGESTS {
         return Ok(Layout::Dense);
     }
-    let mut first = [0; 64];
-    match disk.read_at(0, &mut first) {
-        Ok(()) => {
-            if is_titled(&first) {
-                return Ok(titled_layout(disk));
-            }
-            Ok(untitled_layout(disk, &first))
-        }
-        Err(refusal) => match has_second(disk) {
-            Ok(true) => Ok(Layout::SecondAlone),
+    match sector_start(disk, 0) {
+        Ok(first) => match sector_start(disk, SECTOR) {
+            Ok(second) => Ok(layout_of_parts(count, &first, &second)),
+            Err(_) => Ok(layout_by_first(&first)),
+        },
+        Err(refusal) => match sector_start(disk, SECTOR) {
+            Ok(second) if is_sector(&second) => Ok(Layout::SecondAlone),
             _ => Err(refusal),
         },
     }

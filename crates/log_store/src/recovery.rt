@@ -1,6 +1,6 @@
 //! What is sound of a damaged log's file, as a new file.
 
-ghost use Rattle.std.specs.Prelude.{◌≡◌, ◌≤◌, ◌<◌, ◌+◌, ◌*◌, ◌^◌, ℕ, List, [], length, take, drop, unwrap_or, IfOk, OnOk, Ok};
+ghost use Rattle.std.specs.Prelude.{◌≡◌, ◌≤◌, ◌<◌, ◌+◌, ◌*◌, ◌^◌, ℕ, List, [], length, take, drop, replicate, unwrap_or, IfOk, OnOk, Ok};
 ghost use Rattle.std.specs.Option.{option_map};
 ghost use Rattle.sha2.specs.Sha256.{sha256};
 ghost use Rattle.ark_paths.specs.Pair.{Digest};
@@ -9,13 +9,13 @@ ghost use Rattle.merkle_log.specs.Log.{merkle_tree_hash};
 ghost use Rattle.log_store.specs.Disk.{LeavesOnly};
 ghost use Rattle.log_store.specs.Refused.{IsUnrecovered};
 ghost use Rattle.log_store.specs.Sound.{HasStored};
-ghost use Rattle.log_store.specs.Store.{IsHeadless, IsEmpty, IsSettled};
+ghost use Rattle.log_store.specs.Store.{IsAllFresh, IsNewFile, IsHeadless, IsSettled, LeavesJust};
 ghost use Rattle.log_file.specs.LogFile.{file_end, slots_head, IsLogFile};
 
 use crate::disk::Disk;
 use crate::edge::root_at;
 use crate::sound::sound_front;
-use crate::steps::write_durably;
+use crate::steps::write_head;
 use crate::stop::Stop;
 use crate::window::{PART, read_ahead};
 use log_file::fault::Fault;
@@ -107,22 +107,23 @@ pub fn recoverable<D: Disk>(disk: &D) -> Result<Recovered, Stop<D::Refusal>>
     }
 }
 
-// Copies so many bytes behind the head to a file that has no byte, and syncs. Zeros stand for a head.
-fn copy_behind<D: Disk>(disk: &D, new: &mut D, count: usize) -> Result<(), D::Refusal>
+// Copies so many bytes behind the head to a file that has zeros in the place of a head, and syncs.
+fn copy_parts<D: Disk>(disk: &D, new: &mut D, count: usize) -> Result<(), D::Refusal>
     requires { 96 + count < 2 ^ 64 }
     ensures obeys { D.Obeys new.new → D.Obeys new.old }
-    ensures copied { D.Obeys new.new → D.Obeys disk.now → D.seen new.old ≡ []
+    ensures copied { D.Obeys new.new → D.Obeys disk.now → D.seen new.old ≡ replicate 96 0
         → 96 + count ≤ length (D.seen disk.now)
         → OnOk result (drop 96 (D.seen new.new) ≡ take count (drop 96 (D.seen disk.now))) }
-    ensures durable { D.Obeys new.new → D.Obeys disk.now → D.seen new.old ≡ []
-        → IsEmpty (D.may_leave new.old) → 96 + count ≤ length (D.seen disk.now)
-        → OnOk result ((left : List ℕ) → D.may_leave new.new left → left ≡ D.seen new.new) }
+    ensures durable { D.Obeys new.new → D.Obeys disk.now → D.seen new.old ≡ replicate 96 0
+        → IsAllFresh (D.fresh new.old) (D.may_leave new.old) (D.seen new.old)
+        → 96 + count ≤ length (D.seen disk.now)
+        → OnOk result (LeavesJust (D.seen new.new) (D.may_leave new.new)) }
 
-    // A crash at any moment leaves no head.
-    ensures any_moment { D.Obeys new.new → D.seen new.old ≡ [] → IsEmpty (D.may_leave new.old)
+    // A crash at any moment leaves no head, if it left none before.
+    ensures any_moment { D.Obeys new.new → D.seen new.old ≡ replicate 96 0
+        → ((left : List ℕ) → D.may_leave new.old left → IsHeadless left)
         → LeavesOnly D.moment D.left_since new.old new.new IsHeadless }
 {
-    new.write_at(0, &[0; START])?;
     let mut part = [0; PART];
     let mut done = 0;
     'parts: while done < count {
@@ -134,32 +135,58 @@ fn copy_behind<D: Disk>(disk: &D, new: &mut D, count: usize) -> Result<(), D::Re
     new.sync()
 }
 
-/// Writes what of a file can be recovered to another one, which has no byte, and syncs. The head is written last, so that a new
-/// file that is not done is that of no log. The old file is only read.
+// The same, to a file that has no byte, or zeros alone in the place of a head.
+fn copy_behind<D: Disk>(disk: &D, new: &mut D, count: usize) -> Result<(), D::Refusal>
+    requires { 96 + count < 2 ^ 64 }
+    ensures obeys { D.Obeys new.new → D.Obeys new.old }
+    ensures copied { D.Obeys new.new → D.Obeys disk.now → IsNewFile (D.seen new.old)
+        → 96 + count ≤ length (D.seen disk.now)
+        → OnOk result (drop 96 (D.seen new.new) ≡ take count (drop 96 (D.seen disk.now))) }
+    ensures durable { D.Obeys new.new → D.Obeys disk.now → IsNewFile (D.seen new.old)
+        → LeavesJust (D.seen new.old) (D.may_leave new.old)
+        → 96 + count ≤ length (D.seen disk.now)
+        → OnOk result (LeavesJust (D.seen new.new) (D.may_leave new.new)) }
+
+    // A crash at any moment leaves no head.
+    ensures any_moment { D.Obeys new.new → IsNewFile (D.seen new.old)
+        → LeavesJust (D.seen new.old) (D.may_leave new.old)
+        → LeavesOnly D.moment D.left_since new.old new.new IsHeadless }
+{
+    let there = new.length()?;
+    if there == 0 {
+        new.write_at(0, &[0; START])?;
+        return copy_parts(disk, new, count);
+    }
+    copy_parts(disk, new, count)
+}
+
+/// Writes what of a file can be recovered to another one, which has no byte, or 96 zeros alone, and syncs. The head is written
+/// last, so that a new file that is not done is that of no log. The old file is only read.
 ///
 /// Errors: those of `recoverable`; a refusal of one of the files.
 pub fn recover<D: Disk>(disk: &D, new: &mut D) -> Result<Recovered, Stop<D::Refusal>>
     ensures obeys { D.Obeys new.new → D.Obeys new.old }
 
     // The new file is that of a log, whose digests are among those of the old one, and stays it if one of its slots is lost.
-    ensures recovered { D.Obeys new.new → D.Obeys disk.now → D.seen new.old ≡ []
+    ensures recovered { D.Obeys new.new → D.Obeys disk.now → IsNewFile (D.seen new.old)
         → IfOk result (λ found. (leaves : List Digest) × HasStored leaves (D.seen disk.now)
         × (length leaves ≡ found.size) × IsSettled leaves (D.seen new.new)) }
 
     // Of the file of a log it is that of the same log.
-    ensures log { D.Obeys new.new → D.Obeys disk.now → D.seen new.old ≡ []
+    ensures log { D.Obeys new.new → D.Obeys disk.now → IsNewFile (D.seen new.old)
         → (leaves : List Digest) → IsLogFile leaves (D.seen disk.now)
         → OnOk result (IsSettled leaves (D.seen new.new)) }
     ensures refused { D.Obeys disk.now → IsUnrecovered (D.seen disk.now) result }
 
     // Once it returned, a crash leaves what is read.
-    ensures durable { D.Obeys new.new → D.Obeys disk.now → D.seen new.old ≡ []
-        → IsEmpty (D.may_leave new.old)
-        → OnOk result ((left : List ℕ) → D.may_leave new.new left → left ≡ D.seen new.new) }
+    ensures durable { D.Obeys new.new → D.Obeys disk.now → IsNewFile (D.seen new.old)
+        → LeavesJust (D.seen new.old) (D.may_leave new.old)
+        → OnOk result (LeavesJust (D.seen new.new) (D.may_leave new.new)) }
 
     // A crash at any moment leaves the file of no log, or of one whose digests are all among those of the old file.
-    ensures any_moment { D.Obeys new.new → D.Obeys disk.now → D.seen new.old ≡ []
-        → IsEmpty (D.may_leave new.old) → LeavesOnly D.moment D.left_since new.old new.new
+    ensures any_moment { D.Obeys new.new → D.Obeys disk.now → IsNewFile (D.seen new.old)
+        → LeavesJust (D.seen new.old) (D.may_leave new.old)
+        → LeavesOnly D.moment D.left_since new.old new.new
         (λ left. (leaves : List Digest) → IsLogFile leaves left
         → HasStored leaves (D.seen disk.now)) }
 {
@@ -167,7 +194,7 @@ pub fn recover<D: Disk>(disk: &D, new: &mut D) -> Result<Recovered, Stop<D::Refu
     if let Err(refusal) = copy_behind(disk, new, 32 * stored_count(found.size)) {
         return Err(Stop::Disk(refusal));
     }
-    match write_durably(new, 0, &head_bytes(found.size, &found.root)) {
+    match write_head(new, &head_bytes(found.size, &found.root)) {
         Ok(()) => Ok(found),
         Err(refusal) => Err(Stop::Disk(refusal)),
     }

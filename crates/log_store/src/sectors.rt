@@ -61,7 +61,7 @@ fn title_of(bytes: &[u8; 64]) -> [u8; 32]
 }
 
 /// Returns the slot of a sector, behind its title.
-pub fn slot_of(bytes: &[u8; 64]) -> [u8; 32]
+pub fn slot_behind_title(bytes: &[u8; 64]) -> [u8; 32]
     ensures { result ≡ drop 32 bytes.now }
 {
     let mut slot = [0; 32];
@@ -69,8 +69,8 @@ pub fn slot_of(bytes: &[u8; 64]) -> [u8; 32]
     slot
 }
 
-// A title and a slot.
-fn beside(title: &[u8; 32], slot: &[u8; 32]) -> [u8; 64]
+/// Returns a title and a slot.
+pub fn titled_slot(title: &[u8; 32], slot: &[u8; 32]) -> [u8; 64]
     ensures { result ≡ title.now ++ slot.now }
 {
     let mut part = [0; 64];
@@ -84,7 +84,7 @@ fn first_part_of(bytes: &[u8; 64]) -> [u8; 64]
     ensures { result ≡ (if bytes_eq (take 32 bytes.now) sector_title then title
         else replicate 32 0) ++ drop 32 bytes.now }
 {
-    beside(&title_of(bytes), &slot_of(bytes))
+    titled_slot(&title_of(bytes), &slot_behind_title(bytes))
 }
 
 // The title and the first slot of the log's file.
@@ -112,7 +112,7 @@ fn second_part<D: Disk>(disk: &D) -> Result<[u8; 32], SectorRefusal<D::Refusal>>
 }
 
 // A title and two slots.
-fn joined(first: &[u8; 64], second: &[u8; 32]) -> [u8; START]
+fn head_of_parts(first: &[u8; 64], second: &[u8; 32]) -> [u8; START]
     ensures { result ≡ first.now ++ second.now }
 {
     let mut head = [0; START];
@@ -125,11 +125,11 @@ fn joined(first: &[u8; 64], second: &[u8; 32]) -> [u8; START]
 fn unread_part() -> [u8; 64]
     ensures { result ≡ title ++ replicate 32 0 }
 {
-    beside(&TITLE, &[0; 32])
+    titled_slot(&TITLE, &[0; 32])
 }
 
 // The head of the log's file.
-fn head_of<D: Disk>(disk: &D, layout: Layout) -> Result<[u8; START], SectorRefusal<D::Refusal>>
+fn laid_head_of<D: Disk>(disk: &D, layout: Layout) -> Result<[u8; START], SectorRefusal<D::Refusal>>
     ensures { D.Obeys disk.now → 8192 ≤ length (D.seen disk.now) → IfOk result (λ head.
         head ≡ laid_head layout (D.seen disk.now)) }
 {
@@ -141,9 +141,9 @@ fn head_of<D: Disk>(disk: &D, layout: Layout) -> Result<[u8; START], SectorRefus
                 Err(refusal) => Err(SectorRefusal::Disk(refusal)),
             }
         }
-        Layout::Apart => Ok(joined(&first_part(disk)?, &second_part(disk)?)),
-        Layout::FirstAlone => Ok(joined(&first_part(disk)?, &[0; 32])),
-        Layout::SecondAlone => Ok(joined(&unread_part(), &second_part(disk)?)),
+        Layout::Apart => Ok(head_of_parts(&first_part(disk)?, &second_part(disk)?)),
+        Layout::FirstAlone => Ok(head_of_parts(&first_part(disk)?, &[0; 32])),
+        Layout::SecondAlone => Ok(head_of_parts(&unread_part(), &second_part(disk)?)),
     }
 }
 
@@ -159,7 +159,7 @@ enum Own {
 }
 
 // The bytes of a title and a slot, of which the title is that of a log's file.
-fn start_of(bytes: &[u8]) -> Own
+fn start_laid(bytes: &[u8]) -> Own
     ensures start { IfStart result (λ own. LiesApart 0 bytes.now 0 own) }
     ensures no_place { IfPlace result (λ _. ⊥) }
 {
@@ -171,7 +171,7 @@ fn start_of(bytes: &[u8]) -> Own
     if !has_title(&own) {
         return Own::Nowhere;
     }
-    Own::Start(beside(&SECTOR_TITLE, &slot_of(&own)))
+    Own::Start(titled_slot(&SECTOR_TITLE, &slot_behind_title(&own)))
 }
 
 // Where bytes of a slot or of digests lie.
@@ -204,7 +204,7 @@ fn own_of(layout: Layout, at: usize, bytes: &[u8]) -> Own
         Layout::Dense => Own::At(at),
         Layout::Apart => {
             if at == 0 {
-                return start_of(bytes);
+                return start_laid(bytes);
             }
             match place_for(at, bytes.len()) {
                 Some(place) => Own::At(place),
@@ -231,7 +231,7 @@ fn holds_sectors<D: Disk>(disk: &D, layout: Layout) -> Result<(), SectorRefusal<
 }
 
 // Writes bytes as they lie on the disk.
-fn put<D: Disk>(
+fn write_laid<D: Disk>(
     disk: &mut D,
     layout: Layout,
     place: usize,
@@ -309,8 +309,8 @@ impl<D: Disk + Drop> Disk for SectorDisk<D> {
 
     fn write_at(&mut self, at: usize, bytes: &[u8]) -> Result<(), SectorRefusal<D::Refusal>> {
         match own_of(self.layout, at, bytes) {
-            Own::At(place) => put(&mut self.disk, self.layout, place, bytes),
-            Own::Start(own) => put(&mut self.disk, self.layout, 0, &own),
+            Own::At(place) => write_laid(&mut self.disk, self.layout, place, bytes),
+            Own::Start(own) => write_laid(&mut self.disk, self.layout, 0, &own),
             Own::Nowhere => Err(SectorRefusal::Place),
         }
     }
@@ -369,7 +369,7 @@ fn read_laid<D: Disk>(
         return read_piece(disk, at, into);
     }
     if at >= START {
-        return read_digests(disk, at - START, into);
+        return read_behind(disk, at - START, into);
     }
     if into.len() > START - at {
         return Err(SectorRefusal::Place);
@@ -377,7 +377,7 @@ fn read_laid<D: Disk>(
     if let Err(why) = holds_sectors(disk, Layout::Apart) {
         return Err(why);
     }
-    let head = head_of(disk, layout)?;
+    let head = laid_head_of(disk, layout)?;
     copy_head(&head, at, into);
     Ok(())
 }
@@ -398,7 +398,7 @@ fn read_piece<D: Disk>(
 }
 
 // Reads bytes of the digests, from a place behind their start on.
-fn read_digests<D: Disk>(
+fn read_behind<D: Disk>(
     disk: &D,
     behind: usize,
     into: &mut [u8],

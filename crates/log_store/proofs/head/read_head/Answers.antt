@@ -30,7 +30,8 @@ returns-then-not-has_front-clause-refused g c = λ obeys.
       c.if-count-lt-START.false,
     ))) (omega (arith, long, c.if-count-lt-START.false))) ∙ sym c.in-Some.ensures in
     let front : has_front size (digest_count seen) ≡ false =
-    ap (λ n. has_front size ((n - 96) / 32)) (sym long) ∙ sym c.has_front.ensures.test ∙ c.if-not-has_front.true in
+    ap (λ n. has_front size ((n - 96) / 32)) (sym (c.in-Ok-length_again.ensures.length obeys long))
+    ∙ sym c.has_front.ensures.test ∙ c.if-not-has_front.true in
     inr (inl (size-of seen size c.in-Some.head.is_second_next false head front))
 
 pub returns-clause-bytes : goal.returns-clause-bytes
@@ -52,5 +53,6 @@ returns-clause-size g c = λ obeys.
     let seen = g.D.Disk.seen c.args.disk.now in
     let size = c.in-Some.head.size in
     let front : has_front size (digest_count seen) ≡ true = ap (λ n. has_front size ((n - 96) / 32))
-    (sym (c.in-Ok.ensures obeys)) ∙ sym c.has_front.ensures.test ∙ c.if-not-has_front.false in
+    (sym (c.in-Ok-length_again.ensures.length obeys (c.in-Ok.ensures obeys))) ∙ sym c.has_front.ensures.test
+    ∙ c.if-not-has_front.false in
     size-of seen size c.in-Some.head.is_second_next true (returns-clause-head g c obeys) front

@@ -1,14 +1,15 @@
-use Rattle.std.proofs.Common.{◌≡◌, ℕ, List, ◌++◌, [], length, take, refl, sym, ◌∙◌, subst, inl, inr, ap, arith}
+use Rattle.std.proofs.Common.{◌≡◌, ℕ, List, ◌++◌, [], length, take, refl, sym, ◌∙◌, subst, inl, inr, ap}
 use Rattle.sha2.specs.Sha256.{sha256}
 use Rattle.ark_paths.specs.Pair.{Digest}
 use Rattle.log_file.specs.LogFile.{file_end, slot, title, written, IsLogFile}
 use Rattle.log_store.specs.Disk.{After, LeavesOnly, Torn}
 use Rattle.log_store.specs.Store.{new_head, IsPartOf, IsSettled, TornInTurn}
-use Rattle.log_store.proofs.Recovering.{new-settled, part-torn}
+use Rattle.log_store.proofs.Recovering.{new-settled}
 use Rattle.log_store.proofs.Runs.{begun, weaker}
+use Rattle.log_store.proofs.Sectoring.{part-none, part-torn}
 use Rattle.log_store.proofs.Writes.{torn-not}
 use Rattle.log_store.proofs.made.make.Goals as goal
-use Rattle.log_store.proofs.made.make.Goals.{After-write_head, In_ok-is_begun}
+use Rattle.log_store.proofs.made.make.Goals.{After-write_head}
 
 -- a head of no entries
 head-is : {head top seed : List ℕ} → head ≡ title ++ (slot 0 top ++ slot 0 top) → top ≡ sha256 seed → seed ≡ []
@@ -54,7 +55,8 @@ parts-left : (g : _) (c : After-write_head g) → g.D.Disk.Obeys c.write_head.ne
 parts-left g c obeys parts =
     weaker g.D.Disk c.args.disk.now c.write_head.new.disk (IsPartOf new_head) _
     (c.write_head.ensures.any_moment obeys)
-    (λ left torn. part-torn torn.0 left (parts torn.0 torn.1) (subst (λ h. Torn 0 h torn.0 left) (head-of g c) torn.2))
+    (λ left torn. part-torn new_head torn.0 left (parts torn.0 torn.1)
+    (subst (λ h. Torn 0 h torn.0 left) (head-of g c) torn.2))
 
 pub returns-in_err-is_begun-clause-any_moment : goal.returns-in_err-is_begun-clause-any_moment
 returns-in_err-is_begun-clause-any_moment g c = λ obeys leaves log.
@@ -142,12 +144,8 @@ returns-in_err-is_begun-clause-others_moment g c = λ obeys.
     inr (begun g.D.Disk c.args.disk.now (After (Torn 0 part) (g.D.Disk.may_leave c.args.disk.now))
     (λ left since. (left, g.met.D.Disk.only_now c.args.disk.now left since, torn-not 0 part left left refl)))
 
--- Nothing is a part of that head.
-none-part : (file : List ℕ) → file ≡ [] → IsPartOf new_head file
-none-part file none = rw (none) (record { short = omega arith; bytes = λ n less. absurd (omega arith) })
-
 pub returns-in_err-is_begun-clause-left : goal.returns-in_err-is_begun-clause-left
-returns-in_err-is_begun-clause-left g c = λ obeys none. none-part (g.D.Disk.seen c.args.disk.now) none
+returns-in_err-is_begun-clause-left g c = λ obeys none. part-none new_head (g.D.Disk.seen c.args.disk.now) none
 
 pub returns-in-Ok-clause-others_moment : goal.returns-in-Ok-clause-others_moment
 returns-in-Ok-clause-others_moment g c = λ obeys.
@@ -155,8 +153,8 @@ returns-in-Ok-clause-others_moment g c = λ obeys.
 
 pub returns-in-Ok-clause-left : goal.returns-in-Ok-clause-left
 returns-in-Ok-clause-left g c = λ obeys none.
-    part-torn (g.D.Disk.seen c.args.disk.now) (g.D.Disk.seen c.write_head.new.disk)
-    (none-part (g.D.Disk.seen c.args.disk.now) none)
+    part-torn new_head (g.D.Disk.seen c.args.disk.now) (g.D.Disk.seen c.write_head.new.disk)
+    (part-none new_head (g.D.Disk.seen c.args.disk.now) none)
     (subst (λ h. Torn 0 h (g.D.Disk.seen c.args.disk.now) (g.D.Disk.seen c.write_head.new.disk))
     (head-of g (goal.at.returns-in-Ok-clause-left g c).After-write_head)
     (c.write_head.ensures.torn obeys))
@@ -167,8 +165,8 @@ returns-in-Err-clause-others_moment g c = λ obeys.
 
 pub returns-in-Err-clause-left : goal.returns-in-Err-clause-left
 returns-in-Err-clause-left g c = λ obeys none.
-    part-torn (g.D.Disk.seen c.args.disk.now) (g.D.Disk.seen c.write_head.new.disk)
-    (none-part (g.D.Disk.seen c.args.disk.now) none)
+    part-torn new_head (g.D.Disk.seen c.args.disk.now) (g.D.Disk.seen c.write_head.new.disk)
+    (part-none new_head (g.D.Disk.seen c.args.disk.now) none)
     (subst (λ h. Torn 0 h (g.D.Disk.seen c.args.disk.now) (g.D.Disk.seen c.write_head.new.disk))
     (head-of g (goal.at.returns-in-Err-clause-left g c).After-write_head)
     (c.write_head.ensures.torn obeys))
@@ -178,11 +176,11 @@ returns-in-Ok-rewrite_head-clause-others_moment g c = λ obeys. inr (c.rewrite_h
 
 pub returns-in-Ok-rewrite_head-clause-left : goal.returns-in-Ok-rewrite_head-clause-left
 returns-in-Ok-rewrite_head-clause-left g c = λ obeys none.
-    none-part (g.D.Disk.seen c.rewrite_head.new.disk) (c.rewrite_head.ensures.same obeys ∙ none)
+    part-none new_head (g.D.Disk.seen c.rewrite_head.new.disk) (c.rewrite_head.ensures.same obeys ∙ none)
 
 pub returns-in-Err-rewrite_head-clause-others_moment : goal.returns-in-Err-rewrite_head-clause-others_moment
 returns-in-Err-rewrite_head-clause-others_moment g c = λ obeys. inr (c.rewrite_head.ensures.any_moment obeys)
 
 pub returns-in-Err-rewrite_head-clause-left : goal.returns-in-Err-rewrite_head-clause-left
 returns-in-Err-rewrite_head-clause-left g c = λ obeys none.
-    none-part (g.D.Disk.seen c.rewrite_head.new.disk) (c.rewrite_head.ensures.same obeys ∙ none)
+    part-none new_head (g.D.Disk.seen c.rewrite_head.new.disk) (c.rewrite_head.ensures.same obeys ∙ none)

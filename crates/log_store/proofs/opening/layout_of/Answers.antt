@@ -1,57 +1,63 @@
-use Rattle.std.proofs.Common.{◌≡◌, ◌≤◌, inl, inr, ⊎_elim, ◌∙◌, ap, sym, refl, length, take, arith}
-use Rattle.log_file.proofs.Heads.{eq_bytes, same_bytes}
-use Rattle.std.specs.Str.{bytes_eq}
-use Rattle.log_store.specs.Sectors.{sector_title}
-use Rattle.log_store.proofs.Laying.{part-whole}
-use Rattle.log_store.proofs.Losing.{first-title, log-titled, lost-slot, other-title}
-use Rattle.log_store.proofs.opening.layout_of.Goals.{After-is_titled}
+use Rattle.std.proofs.Common.{◌≡◌, ◌⊎◌, ◌≤◌, inl, inr, ◌∙◌, ap, sym, refl, subst, List, ℕ, length, take, IfOk, arith}
+use Rattle.ark_paths.specs.Pair.{Digest}
+use Rattle.log_file.specs.LogFile.{IsLogFile}
+use Rattle.log_store.specs.Sectors.{laid, HasSecond}
+use Rattle.log_store.specs.Store.{SaysLarger}
+use Rattle.log_store.specs.declared.sectors.Layout.{Layout}
+use Rattle.log_store.specs.declared.sectors.Layout.TheVariants.{Dense, SecondAlone}
+use Rattle.log_store.proofs.Losing.{lost-slot}
+use Rattle.log_store.proofs.Lying.{lies-apart, lies-dense, second-there, settled-title, start-title}
+use Rattle.log_store.proofs.opening.layout_of.Goals.{in-Ok-sector_start, in-Err-sector_start}
 use Rattle.log_store.proofs.opening.layout_of.Goals as goal
 
--- The file has both sectors.
-inside : (g : _) (c : After-is_titled g) → g.D.Disk.Obeys c.args.disk.now → 8192 ≤ length
-    (g.D.Disk.seen c.args.disk.now)
-inside g c obeys = omega (arith, c.in_ok-length.ensures obeys, c.if-branch-lt-DIGESTS.false)
+-- what is said of the layout of a file with a log
+abbrev Lost : List ℕ → List Digest → Layout → Type 0
+Lost file leaves layout =
+    IsLogFile leaves (laid layout file) ⊎ SaysLarger (length leaves) (length leaves) (laid layout file)
 
--- the title that was read
-read-title : (g : _) (c : After-is_titled g) → g.D.Disk.Obeys c.args.disk.now
-    → take 32 c.read_at.new.into ≡ take 32 (g.D.Disk.seen c.args.disk.now)
-read-title g c obeys = first-title c.read_at.new.into (g.D.Disk.seen c.args.disk.now)
-    (c.in-Ok.ensures obeys (omega (arith, inside g c obeys)))
+-- and of that of an older file
+abbrev Older : List ℕ → Layout → Type 0
+Older file layout = (layout ≡ Dense) ⊎ ((layout ≡ SecondAlone) × HasSecond file)
 
-pub returns-then-is_titled-clause-lost : goal.returns-then-is_titled-clause-lost
-returns-then-is_titled-clause-lost g c = λ obeys leaves long settled.
-    lost-slot leaves c.titled_layout.result (g.D.Disk.seen c.args.disk.now) settled
-    (⊎_elim (λ both. inl both) (λ one. inr (inl one)) c.titled_layout.ensures)
-
-pub returns-then-is_titled-clause-dense : goal.returns-then-is_titled-clause-dense
-returns-then-is_titled-clause-dense g c = λ obeys begins.
-    let a = (goal.at.returns-then-is_titled-clause-dense g c).After-is_titled in
-    absurd (other-title (sym (eq_bytes (take 32 c.read_at.new.into) sector_title
-    (sym c.is_titled.ensures ∙ c.if-is_titled.true)) ∙ read-title g a obeys ∙ begins))
-
-pub returns-else-is_titled-clause-lost : goal.returns-else-is_titled-clause-lost
-returns-else-is_titled-clause-lost g c = λ obeys leaves long settled.
-    let a = (goal.at.returns-else-is_titled-clause-lost g c).After-is_titled in
+pub returns-after-sector_start-2-clause-lost : goal.returns-after-sector_start-2-clause-lost
+returns-after-sector_start-2-clause-lost g c = λ obeys leaves long settled.
     let file = g.D.Disk.seen c.args.disk.now in
-    let is : take 32 c.read_at.new.into ≡ sector_title =
-    read-title g a obeys ∙ sym (part-whole 0 32 file (omega (arith, long))) ∙ log-titled file leaves settled.log in
-    let clash = sym c.if-is_titled.false ∙ c.is_titled.ensures ∙ ap (λ l. bytes_eq l sector_title) is
-    ∙ same_bytes sector_title in
-    absurd (cc)
+    let first = c.in-Ok.ensures obeys (omega (arith, long)) in
+    let begins = settled-title file leaves long settled.log in
+    elim c.match-sector_start-2.branch [
+      | in-Ok-sector_start w ↦ subst (λ r. IfOk r (Lost file leaves)) (sym w.result-is)
+          (lost-slot leaves w.layout_of_parts.result file settled (inl (w.layout_of_parts.ensures.file file
+          (c.in_ok-count.ensures obeys) first (w.in-Ok-sector_start.ensures obeys (omega (arith, long)))
+          ∙ lies-apart file long begins)))
+      | in-Err-sector_start w ↦ subst (λ r. IfOk r (Lost file leaves)) (sym w.result-is)
+          (lost-slot leaves w.layout_by_first.result file settled (inr (inl (w.layout_by_first.ensures.titled
+          (ap (take 32) first ∙ start-title file long ∙ begins)))))
+    ]
 
-pub returns-else-is_titled-clause-dense : goal.returns-else-is_titled-clause-dense
-returns-else-is_titled-clause-dense g c = λ obeys begins.
-    let a = (goal.at.returns-else-is_titled-clause-dense g c).After-is_titled in
-    inl (c.untitled_layout.ensures (read-title g a obeys ∙ begins))
+pub returns-after-sector_start-2-clause-dense : goal.returns-after-sector_start-2-clause-dense
+returns-after-sector_start-2-clause-dense g c = λ obeys begins.
+    let file = g.D.Disk.seen c.args.disk.now in
+    let long : 8192 ≤ length file = omega (arith, c.in_ok-count.ensures obeys, c.if-count-lt-DIGESTS.false) in
+    let first = c.in-Ok.ensures obeys (omega (arith, long)) in
+    elim c.match-sector_start-2.branch [
+      | in-Ok-sector_start w ↦ subst (λ r. IfOk r (Older file)) (sym w.result-is)
+          (inl (w.layout_of_parts.ensures.file file (c.in_ok-count.ensures obeys) first
+          (w.in-Ok-sector_start.ensures obeys (omega (arith, long))) ∙ lies-dense file long begins))
+      | in-Err-sector_start w ↦ subst (λ r. IfOk r (Older file)) (sym w.result-is)
+          (inl (w.layout_by_first.ensures.older (ap (take 32) first ∙ start-title file long ∙ begins)))
+    ]
 
-pub returns-in-Ok-true-clause-lost : goal.returns-in-Ok-true-clause-lost
-returns-in-Ok-true-clause-lost g c = λ obeys leaves long settled.
+pub returns-in-Ok-sector_start-2-clause-lost : goal.returns-in-Ok-sector_start-2-clause-lost
+returns-in-Ok-sector_start-2-clause-lost g c = λ obeys leaves long settled.
     lost-slot leaves _ (g.D.Disk.seen c.args.disk.now) settled (inr (inr refl))
 
-pub returns-in-Ok-true-clause-dense : goal.returns-in-Ok-true-clause-dense
-returns-in-Ok-true-clause-dense g c = λ obeys begins.
+pub returns-in-Ok-sector_start-2-clause-dense : goal.returns-in-Ok-sector_start-2-clause-dense
+returns-in-Ok-sector_start-2-clause-dense g c = λ obeys begins.
+    let file = g.D.Disk.seen c.args.disk.now in
+    let long : 8192 ≤ length file = omega (arith, c.in_ok-count.ensures obeys, c.if-count-lt-DIGESTS.false) in
     inr (
       refl,
-      c.in-Ok-true.ensures obeys
-          (omega (arith, c.in_ok-length.ensures obeys, c.if-branch-lt-DIGESTS.false)) c.in-Ok-true.field-0-test,
+      second-there c.in-Ok-sector_start-2.second file
+          (c.in-Ok-sector_start-2.ensures obeys (omega (arith, long))) long
+          (sym c.is_sector.ensures ∙ c.if-is_sector.true),
     )

@@ -11,10 +11,10 @@ returns-then-at-ge-START g c = λ obeys inside.
     let n = length c.args.into.now in
     let spread = c.is_dense.ensures.spread c.if-is_dense.false in
     let two : 96 + (c.args.at - 96) ≡ c.args.at = omega (arith, c.if-at-ge-START.true) in
-    known_if_ok c.read_digests.result (λ read. read
+    known_if_ok c.read_behind.result (λ read. read
     ∙ ap (take n) (sym (laid-behind c.args.layout file (c.args.at - 96) spread))
     ∙ ap (λ p. take n (drop p (laid c.args.layout file))) two)
-    (c.read_digests.ensures obeys (omega (
+    (c.read_behind.ensures obeys (omega (
       arith,
       inside,
       two,

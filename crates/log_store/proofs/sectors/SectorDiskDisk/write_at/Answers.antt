@@ -8,7 +8,7 @@ returns-in-At-clause-apart g c = λ obeys within spot earlier apart fresh. (
   fresh.0,
   fresh.1,
   fresh.2,
-  c.put.ensures.apart obeys c.args.at c.args.bytes.now c.in-At.ensures.place within fresh.0 fresh.1
+  c.write_laid.ensures.apart obeys c.args.at c.args.bytes.now c.in-At.ensures.place within fresh.0 fresh.1
       (apart-any c.args.self.now.layout spot earlier fresh.0 fresh.1 c.args.at c.args.bytes.now c.in-At.place
       c.args.bytes.now fresh.2 c.in-At.ensures.place apart) fresh.3,
 )
@@ -18,7 +18,7 @@ returns-in-Start-clause-apart g c = λ obeys within spot earlier apart fresh. (
   fresh.0,
   fresh.1,
   fresh.2,
-  c.put-in-Start.ensures.apart obeys c.args.at c.args.bytes.now c.in-Start.ensures.start within fresh.0 fresh.1
+  c.write_laid-in-Start.ensures.apart obeys c.args.at c.args.bytes.now c.in-Start.ensures.start within fresh.0 fresh.1
       (apart-any c.args.self.now.layout spot earlier fresh.0 fresh.1 c.args.at c.args.bytes.now 0
       c.in-Start.own fresh.2 c.in-Start.ensures.start apart) fresh.3,
 )

@@ -1,7 +1,7 @@
 use Rattle.std.proofs.Common.{◌≡◌, ◌+◌, ◌∙◌, length, take, drop, ap, sym, arith}
 use Rattle.std.proofs.lemmas.List.{drop-drop, length-drop}
 use Rattle.merkle_log.proofs.Givens.{known_if_ok}
-use Rattle.log_store.proofs.sectors.read_digests.Goals as goal
+use Rattle.log_store.proofs.sectors.read_behind.Goals as goal
 
 pub returns-in-Some : goal.returns-in-Some
 returns-in-Some g c = λ obeys inside.

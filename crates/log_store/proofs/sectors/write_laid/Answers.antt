@@ -3,8 +3,8 @@ use Rattle.log_store.specs.Disk.{Torn}
 use Rattle.log_store.specs.Sectors.{laid, LiesAt}
 use Rattle.log_store.proofs.Laid.{crash-any, inside-any, torn-any, written-any}
 use Rattle.log_store.proofs.Writes.{torn-not}
-use Rattle.log_store.proofs.sectors.put.Goals.{After-write_at}
-use Rattle.log_store.proofs.sectors.put.Goals as goal
+use Rattle.log_store.proofs.sectors.write_laid.Goals.{After-write_at}
+use Rattle.log_store.proofs.sectors.write_laid.Goals as goal
 
 -- The place is no later than the end of the file.
 inside : (g : _) (c : After-write_at g) → g.D.Disk.Obeys c.write_at.new.self → (at : ℕ) (bytes : List ℕ)
