@@ -9,7 +9,7 @@ use Rattle.log_tiles.proofs.Fronts.{fronted, way-grows}
 by : (old new : Head) (way : List Stage) → LeadsBy old new way → IsBefore old new
 by old new way leads = inr (way, leads, fronted old new way leads)
 
-itself : (head : Head) → IsBefore head head
+pub itself : (head : Head) → IsBefore head head
 itself head = by head head [] refl
 
 -- A log before the old one is before each that continues the old one.

@@ -1,9 +1,12 @@
 pub mod Audit
 pub mod Bundles
+pub mod Folders
 pub mod Followers
 pub mod Following
 pub mod Histories
 pub mod Names
+pub mod Publications
 pub mod Quorums
 pub mod Tiles
 pub mod Ways
+pub mod Led

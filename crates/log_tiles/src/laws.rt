@@ -1,7 +1,7 @@
 //! What is proved of followers and witnesses over all that happens to them. Each function is one theorem: its contract states it,
 //! and its body does nothing.
 
-ghost use Rattle.std.specs.Prelude.{◌⊎◌, ℕ, List};
+ghost use Rattle.std.specs.Prelude.{◌⊎◌, ◌≤◌, ℕ, List, Contains};
 ghost use Rattle.log_tiles.specs.Histories.{accepted_in, AreOfOneLog, Event, IsHistory};
 ghost use Rattle.log_tiles.specs.Quorums.{AreHonest, IsSignedBy, Meet};
 ghost use Rattle.log_tiles.specs.Ways.{IsBefore};
@@ -15,6 +15,15 @@ pub fn accepted_are_of_one_log<F: HeadFile>()
     ensures { (events : List (Event F)) (now : F)
         → IsHistory F.holds F.may_leave F.moment F.left_since events now
         → AreOfOneLog (accepted_in events) }
+{}
+
+/// States that of two heads that a follower accepted, over each step and each crash, the log of the one with fewer entries begins that
+/// of the other, or two different pairs with one hash are named.
+pub fn smaller_begins_larger<F: HeadFile>()
+    ensures { (events : List (Event F)) (now : F)
+        → IsHistory F.holds F.may_leave F.moment F.left_since events now → (a b : Head)
+        → Contains (accepted_in events) a → Contains (accepted_in events) b
+        → a.size ≤ b.size → IsBefore a b }
 {}
 
 /// States that two clients whose policies meet in an honest witness hold heads of one log, or two different pairs with one hash
