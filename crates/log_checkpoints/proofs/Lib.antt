@@ -1,1 +1,3 @@
 pub mod ReceiptTexts
+mod OneReading
+mod HeldKeys

@@ -29,7 +29,7 @@ lined-first digest path note =
     append_assoc (encode_of standard digest ++ (10 ∷ [])) (flat_map digest_line path) (10 ∷ note)
     ∙ append_assoc (encode_of standard digest) (10 ∷ []) (lined path note)
 
-lined-cut : (digest : Digest) (path : List Digest) (note : List ℕ)
+pub lined-cut : (digest : Digest) (path : List Digest) (note : List ℕ)
     → cut 10 (lined (digest ∷ path) note) ≡ Some (encode_of standard digest, lined path note)
 lined-cut digest path note = ap (cut 10) (lined-first digest path note)
     ∙ cut-written 10 (encode_of standard digest) (lined path note) (lacks-base64 digest)
@@ -92,6 +92,11 @@ pub none-left : (path : List Digest) (note : List ℕ) → IsPath path → (rest
 none-left path note are rest is = record { few = omega arith; all = are.1; is = is }
 
 -- one digest more
+pub bytes-more : (path : List Digest) (digest : Digest) → AllByRecursion (AreBytes 32) path → AreBytes 32 digest
+    → AllByRecursion (AreBytes 32) (path ++ (digest ∷ []))
+bytes-more [] digest all own = (own, tt)
+bytes-more (first ∷ path) digest all own = (all.0, bytes-more path digest all.1 own)
+
 pub lined-more : (path : List Digest) (digest : Digest) (bytes line rest behind : List ℕ)
     → bytes ≡ flat_map digest_line path ++ rest → cut 10 rest ≡ Some (line, behind) → line ≡ encode_of standard digest
     → bytes ≡ flat_map digest_line (path ++ (digest ∷ [])) ++ behind

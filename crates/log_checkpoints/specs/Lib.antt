@@ -1,2 +1,4 @@
 pub mod Receipts
 pub mod Signing
+pub mod Witnessing
+pub mod KeyQuorums

@@ -7,6 +7,7 @@ use Rattle.base64.specs.Engines.{standard}
 use Rattle.ark_base.specs.Digits.{AreBytes}
 use Rattle.ark_paths.specs.Pair.{Digest}
 use Rattle.ark_trees.specs.Rfc6962.{entry_hash, node_of}
+use Rattle.merkle_log.specs.Bind.{BindsDigest}
 use Rattle.merkle_log.specs.Verdict.{inclusion_verdict}
 use Rattle.signed_notes.specs.Checkpoints.{CheckpointParts}
 use Rattle.log_checkpoints.specs.declared.receipts.ReceiptFault.{ReceiptFault}
@@ -25,6 +26,16 @@ abbrev pub receipt_of : ℕ → List Digest → List ℕ → List ℕ
 receipt_of index path note =
     codes "c2sp.org/tlog-proof@v1\nindex " ++ (decimal index ++ (10 ∷ (flat_map digest_line path ++ (10 ∷ note))))
 
+-- Digests of 32 bytes each, as many as a path may have.
+abbrev pub IsPath : List Digest → Type 0
+IsPath path = (length path ≤ 64) × AllByRecursion (AreBytes 32) path
+
+-- The bytes are a receipt of these parts.
+pub record IsReceipt (index : ℕ) (path : List Digest) (note bytes : List ℕ) : Type 0 where
+  pub fits : index < 2 ^ 64
+  pub path_is : IsPath path
+  pub spelled : bytes ≡ receipt_of index path note
+
 -- The bytes are a receipt of an entry: it has a checkpoint of this size and root, which is signed as a policy asks,
 -- and a path that is accepted for the entry at its index.
 pub record IsReceiptOf (policy : Policy) (origin bytes entry : List ℕ) (size : ℕ) (root : Digest) : Type 0 where
@@ -32,11 +43,21 @@ pub record IsReceiptOf (policy : Policy) (origin bytes entry : List ℕ) (size :
   pub path : List Digest
   pub note : List ℕ
   pub stated : CheckpointParts
-  pub spelled : bytes ≡ receipt_of index path note
+  pub read : IsReceipt index path note bytes
   pub opened : IsOpened policy origin note stated
   pub size_is : stated.size ≡ size
   pub root_is : stated.root ≡ root
   pub accepted : inclusion_verdict node_of root size index (entry_hash entry) path ≡ Ok true
+
+-- The bytes are a receipt whose index is below a size, and in each log with this size and root the entry stands there,
+-- or two pairs that differ and hash alike are named.
+pub record ShowsEntry (bytes entry : List ℕ) (size : ℕ) (root : Digest) : Type 0 where
+  pub index : ℕ
+  pub path : List Digest
+  pub note : List ℕ
+  pub read : IsReceipt index path note bytes
+  pub inside : index < size
+  pub bound : BindsDigest node_of root size index (entry_hash entry) path
 
 -- The bytes are a receipt whose checkpoint is signed as a policy asks, and whose path does not lead from the entry to
 -- its root.
@@ -45,13 +66,9 @@ pub record LeadsElsewhere (policy : Policy) (origin bytes entry : List ℕ) : Ty
   pub path : List Digest
   pub note : List ℕ
   pub stated : CheckpointParts
-  pub spelled : bytes ≡ receipt_of index path note
+  pub read : IsReceipt index path note bytes
   pub opened : IsOpened policy origin note stated
   pub refused : inclusion_verdict node_of stated.root stated.size index (entry_hash entry) path ≡ Ok false
-
--- Digests of 32 bytes each, as many as a path may have.
-abbrev pub IsPath : List Digest → Type 0
-IsPath path = (length path ≤ 64) × AllByRecursion (AreBytes 32) path
 
 -- The bytes are no lines of a path with an empty line behind them.
 abbrev pub HaveNoPath : List ℕ → Type 0
@@ -60,8 +77,7 @@ HaveNoPath bytes = (path : List Digest) (note : List ℕ) → IsPath path
 
 -- The bytes are no receipt.
 abbrev pub IsNoReceipt : List ℕ → Type 0
-IsNoReceipt bytes = (index : ℕ) (path : List Digest) (note : List ℕ) → index < 2 ^ 64 → IsPath path
-    → bytes ≡ receipt_of index path note → ⊥
+IsNoReceipt bytes = (index : ℕ) (path : List Digest) (note : List ℕ) → IsReceipt index path note bytes → ⊥
 
 -- A fault is a lack of memory, or this is so and it says that the spelling is wrong.
 abbrev pub IsMisspelled : Type 0 → ReceiptFault → Type 0
@@ -77,7 +93,7 @@ pub record IsUnsignedReceipt (policy : Policy) (origin bytes : List ℕ) (why : 
   pub path : List Digest
   pub note : List ℕ
   pub fault : Fault
-  pub spelled : bytes ≡ receipt_of index path note
+  pub read : IsReceipt index path note bytes
   pub told : why ≡ Note fault
   pub closed : IsClosed policy origin note fault
 

@@ -9,12 +9,16 @@ ghost use Rattle.log_store.specs.Disk.{After, LeavesOnly, Torn};
 ghost use Rattle.log_store.specs.Store.{IsDurable, IsDurableBehind};
 ghost use Rattle.signed_notes.specs.Views.{signer_parts};
 
+mod laws;
 mod receipts;
+mod witnessing;
 
+pub use laws::{quorums_of_keys_meet, receipts_have_one_reading, receipts_have_one_verdict};
 use log_store::{Disk, Stop, rewrite_head};
 pub use receipts::{Receipt, ReceiptFault, TITLE, read_receipt, verify_receipt, write_receipt};
 use signed_notes::{Checkpoint, Fault, Signer, sign_checkpoint};
 use std::alloc::Global;
+pub use witnessing::{Unwitnessed, Witness, head_of, witness_checkpoint};
 
 /// Why there is no checkpoint.
 #[derive(Drop)]

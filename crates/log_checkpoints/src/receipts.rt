@@ -1,6 +1,6 @@
 //! Receipts: that an entry stands at an index of a log, as one file (C2SP tlog-proof).
 
-ghost use Rattle.std.specs.Prelude.{◌≡◌, ◌++◌, ◌∷◌, [], true, None, Some, IfErr, IfOk, IfSome, IsNone, MatchOption, OnOk, Ok};
+ghost use Rattle.std.specs.Prelude.{◌≡◌, ◌++◌, ◌∷◌, [], None, Some, IfErr, IfOk, IfSome, IsNone, MatchOption, OnOk, Ok};
 ghost use Rattle.std.specs.List.{flat_map};
 ghost use Rattle.base64.specs.Engines.{standard};
 ghost use Rattle.base64.specs.GeneralPurpose.{encode_of};
@@ -8,7 +8,7 @@ ghost use Rattle.ark_base.specs.Digits.{AreBytes};
 ghost use Rattle.ark_paths.specs.Pair.{Digest};
 ghost use Rattle.ark_trees.specs.Rfc6962.{entry_hash, node_of};
 ghost use Rattle.log_checkpoints.specs.declared.receipts.ReceiptFault.TheVariants.{Note};
-ghost use Rattle.log_checkpoints.specs.Receipts.{digest_line, receipt_of, HaveNoPath, IsMisspelled, IsReceiptOf, IsUnaccepted, IsUnread, LeadsElsewhere};
+ghost use Rattle.log_checkpoints.specs.Receipts.{digest_line, receipt_of, HaveNoPath, IsMisspelled, IsPath, IsReceipt, IsReceiptOf, IsUnaccepted, IsUnread, LeadsElsewhere, ShowsEntry};
 ghost use Rattle.signed_notes.specs.Cutting.{cut};
 ghost use Rattle.signed_notes.specs.declared.fault.Fault.TheVariants.{Memory};
 ghost use Rattle.merkle_log.specs.Verdict.{inclusion_verdict};
@@ -90,6 +90,7 @@ fn cut_line(bytes: &[u8]) -> Option<(&[u8], &[u8])>
 // The digest that a line spells.
 fn digest_of_line(alloc: Global, line: &[u8]) -> Result<[u8; 32], ReceiptFault>
     ensures read { IfOk result (λ digest. line.now ≡ encode_of standard digest) }
+    ensures bytes { IfOk result (λ digest. AreBytes 32 digest) }
     ensures refused { IfErr result (IsMisspelled ((digest : Digest) → AreBytes 32 digest
         → line.now ≡ encode_of standard digest → ⊥)) }
 {
@@ -109,6 +110,7 @@ fn digest_of_line(alloc: Global, line: &[u8]) -> Result<[u8; 32], ReceiptFault>
 fn path_in(alloc: Global, bytes: &[u8]) -> Result<(Vec<[u8; 32]>, &[u8]), ReceiptFault>
     ensures read { IfOk result (λ read. bytes.now
         ≡ flat_map digest_line read.0.items ++ (10 ∷ read.1.now)) }
+    ensures path { IfOk result (λ read. IsPath read.0.items) }
     ensures refused { IfErr result (IsMisspelled (HaveNoPath bytes.now)) }
 {
     let mut path = Vec::new(alloc);
@@ -132,13 +134,12 @@ fn path_in(alloc: Global, bytes: &[u8]) -> Result<(Vec<[u8; 32]>, &[u8]), Receip
     Err(ReceiptFault::Spelling)
 }
 
-/// Reads a receipt, also any that `write_receipt` writes of at most 64 digests.
+/// Reads a receipt: what `write_receipt` writes of at most 64 digests, and nothing else.
 ///
 /// Errors: `Spelling` for bytes that are none; `Memory`.
 pub fn read_receipt(alloc: Global, bytes: &[u8]) -> Result<Receipt<'_>, ReceiptFault>
-    // A receipt has one spelling.
     ensures read { IfOk result (λ read.
-        bytes.now ≡ receipt_of read.index read.path.items read.note.now) }
+        IsReceipt read.index read.path.items read.note.now bytes.now) }
     ensures refused { IfErr result (IsUnread bytes.now) }
 {
     if bytes.len() < TITLE.len() || bytes[..TITLE.len()] != TITLE[..] {
@@ -196,6 +197,10 @@ pub fn verify_receipt(
 ) -> Result<Option<(usize, [u8; 32])>, ReceiptFault>
     ensures shown { IfOk result (λ found. IfSome found (λ head.
         IsReceiptOf (policy_parts policy.now) origin.now bytes.now entry.now head.0 head.1)) }
+
+    // An index at or above the size is refused.
+    ensures bound { IfOk result (λ found. IfSome found (λ head.
+        ShowsEntry bytes.now entry.now head.0 head.1)) }
     ensures none { IfOk result (λ found. IsNone found
         → LeadsElsewhere (policy_parts policy.now) origin.now bytes.now entry.now) }
     ensures refused { IfErr result

@@ -1,11 +1,12 @@
 use Rattle.std.proofs.Common.{◌≡◌, ◌++◌, ◌∷◌, [], true, false, Result, Ok, Err, refl, sym, ap, ◌∙◌, inl, inr, arith}
+use Rattle.std.proofs.lemmas.List.{length-append}
 use Rattle.std.proofs.lemmas.Result.{err_from_is_err_and}
 use Rattle.std.specs.List.{flat_map}
 use Rattle.std.specs.Result.{is_err, is_ok}
 use Rattle.signed_notes.specs.Cutting.{cut}
 use Rattle.signed_notes.proofs.ReadBack.{cut-whole}
 use Rattle.log_checkpoints.specs.Receipts.{digest_line}
-use Rattle.log_checkpoints.proofs.ReceiptTexts.{empty_line, line-left, lined-more, next-left, none-left, some_line}
+use Rattle.log_checkpoints.proofs.ReceiptTexts.{bytes-more, empty_line, line-left, lined-more, next-left, none-left, some_line}
 use Rattle.log_checkpoints.proofs.receipts.path_in.Goals as goal
 
 pushed : {A E : Type 0} (result : Result A E) → is_err result ≡ false → is_ok result ≡ true
@@ -15,6 +16,8 @@ pushed (Err error) not = absurd cc
 pub lines-init : goal.lines-init
 lines-init c = record {
   few = omega arith;
+  long = rw (c.new-path.ensures.items) refl;
+  bytes = rw (c.new-path.ensures.items) tt;
   read = rw (c.new-path.ensures.items) refl;
   left = λ path note are is. none-left path note are c.args.bytes.now is;
 }
@@ -34,6 +37,10 @@ returns-then-is_empty-clause-read c =
     (sym (cut-whole 10 c.lines.rest.now c.in-Some.line.now c.in-Some.behind.now c.in-Some.ensures)
     ∙ ap (λ l. l ++ (10 ∷ c.in-Some.behind.now)) none)
 
+pub returns-then-is_empty-clause-path : goal.returns-then-is_empty-clause-path
+returns-then-is_empty-clause-path c =
+    (omega (arith, c.lines.invariant.long, c.lines-test.true), c.lines.invariant.bytes)
+
 pub returns-in_err-digest-clause-refused : goal.returns-in_err-digest-clause-refused
 returns-in_err-digest-clause-refused c =
     let e = err_from_is_err_and c.from_residual.result c.from_residual.ensures.1 in
@@ -52,6 +59,10 @@ returns-in_err-digest-clause-refused c =
 pub lines-preserved : goal.lines-preserved
 lines-preserved c = record {
   few = omega (arith, c.lines-test.true);
+  long = rw (c.push.ensures.items, pushed c.push.result (sym c.is_err.ensures.value ∙ c.if-is_err.false))
+      (omega (arith, c.lines.invariant.long, length-append c.lines.path.items (c.in_ok-digest.digest ∷ [])));
+  bytes = rw (c.push.ensures.items, pushed c.push.result (sym c.is_err.ensures.value ∙ c.if-is_err.false))
+      (bytes-more c.lines.path.items c.in_ok-digest.digest c.lines.invariant.bytes c.in_ok-digest.ensures.bytes);
   read = rw (c.push.ensures.items, pushed c.push.result (sym c.is_err.ensures.value ∙ c.if-is_err.false))
       (lined-more c.lines.path.items c.in_ok-digest.digest c.args.bytes.now
       c.in-Some.line.now c.lines.rest.now c.in-Some.behind.now c.lines.invariant.read c.in-Some.ensures

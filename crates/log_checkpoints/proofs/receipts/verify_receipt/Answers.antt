@@ -1,5 +1,6 @@
 use Rattle.std.proofs.Common.{Ok, ap, refl, ◌∙◌}
-use Rattle.signed_notes.specs.Views.{checkpoint_parts}
+use Rattle.log_checkpoints.proofs.OneReading.{shows}
+use Rattle.signed_notes.specs.Views.{checkpoint_parts, policy_parts}
 use Rattle.log_checkpoints.proofs.receipts.verify_receipt.Goals as goal
 
 pub returns-then-branch-clause-shown : goal.returns-then-branch-clause-shown
@@ -12,12 +13,17 @@ returns-then-branch-clause-shown c =
       path = read.path.items;
       note = read.note.now;
       stated = checkpoint_parts c.in-Ok.checkpoint;
-      spelled = c.in_ok-index.ensures.read;
+      read = c.in_ok-index.ensures.read;
       opened = c.in-Ok.ensures.opened;
       size_is = refl;
       root_is = refl;
       accepted = rw path at shown;
     }
+
+pub returns-then-branch-clause-bound : goal.returns-then-branch-clause-bound
+returns-then-branch-clause-bound c =
+    shows (policy_parts c.args.policy.now) c.args.origin.now c.args.bytes.now c.args.entry.now
+    c.in-Ok.checkpoint.size c.in-Ok.checkpoint.root (returns-then-branch-clause-shown c)
 
 pub returns-clause-none : goal.returns-clause-none
 returns-clause-none c none =
@@ -29,7 +35,7 @@ returns-clause-none c none =
       path = read.path.items;
       note = read.note.now;
       stated = checkpoint_parts c.in-Ok.checkpoint;
-      spelled = c.in_ok-index.ensures.read;
+      read = c.in_ok-index.ensures.read;
       opened = c.in-Ok.ensures.opened;
       refused = rw path at shown;
     }
