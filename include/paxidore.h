@@ -63,7 +63,7 @@ enum paxidore_answer {
     PAXIDORE_E_MORE = -10,     /* pieces of the file of a log are to be read first, and their places were written */
     PAXIDORE_E_NO_LOG = -11,   /* the file is no log's */
     PAXIDORE_E_SHORT = -12,    /* the file of a log ends before the digests of the log's size */
-    PAXIDORE_E_HEAD = -13,     /* the file has the title of a log's, and neither of its two slots is whole */
+    PAXIDORE_E_HEAD = -13,     /* under the title of a log's file neither slot is whole; or its first sector is lost */
     PAXIDORE_E_DAMAGED = -14,  /* the file of a log has a digest that was not stored, or states another root */
     PAXIDORE_E_HIDDEN = -15    /* the tree of a map hides what the call needs */
 };
@@ -259,7 +259,7 @@ typedef struct paxidore_log_steps {
 size_t paxidore_log_file_room(size_t count);
 
 /* What is to be done before a file is appended to, each time that it is opened: one of no bytes, or of a part of a new
- * log's head, gets that head (sync its folder too), any other one its own head again. E_ROOM also for `steps`. */
+ * log's head, gets that head (sync its folder too), any other one its own head again. E_HEAD, E_ROOM for `steps`. */
 PAXIDORE_ANSWERS PAXIDORE_NOT_NULL((1, 2)) int32_t paxidore_log_file_make(
     paxidore_log_steps *steps, paxidore_log_pieces *pieces);
 

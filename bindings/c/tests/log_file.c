@@ -18,7 +18,7 @@ static void check(int holds, const char *what, int line) {
 }
 #define CHECK(holds) check((holds) != 0, #holds, __LINE__)
 
-enum { MOST = 70, ROOM = 1 << 14 };
+enum { MOST = 70, ROOM = 1 << 14, SECTOR = 4096 };
 
 /* A file. */
 struct file {
@@ -265,8 +265,116 @@ static void appends(void) {
     CHECK(answer == PAXIDORE_E_HEAD && paxidore_log_file_check(torn.bytes, torn.len) == answer);
 }
 
+/* The file with sectors of a log's file. */
+static void lay_apart(struct file *to, const struct file *from) {
+    static const char title[] = "paxidore log of SHA-256, sectors";
+    memset(to, 0, sizeof *to);
+    for (size_t slot = 0; slot < 2; slot++) {
+        memcpy(to->bytes + SECTOR * slot, title, 32);
+        memcpy(to->bytes + SECTOR * slot + 32, from->bytes + 32 + 32 * slot, 32);
+    }
+    memcpy(to->bytes + 2 * SECTOR, from->bytes + 96, from->len - 96);
+    to->len = 2 * SECTOR + from->len - 96;
+}
+
+static int is_same(const struct file *file, const struct file *other) {
+    return file->len == other->len && memcmp(file->bytes, other->bytes, file->len) == 0;
+}
+
+/* A log whose slots lie in two sectors, beside the same one whose slots lie in one. */
+static void lies_apart(void) {
+    static struct file file, dense, wanted, torn;
+    static const size_t counts[] = {1, 2, 5, 1, 8, 13};
+    static uint8_t entries[MOST];
+    static size_t lengths[MOST];
+    size_t size = 0, grown, count;
+    int32_t answer;
+    kept_len = kept_size = 0;
+    for (size_t n = 0; n < MOST; n++)
+        entries[n] = (uint8_t)n, lengths[n] = 1;
+    ASKED(answer, &dense, paxidore_log_file_make(PLAN, PIECES));
+    CHECK(answer == PAXIDORE_OK);
+    carry_out(&dense, plan.steps.places_len, 0);
+    lay_apart(&file, &dense);
+    CHECK(is_log_of(&file, 0, 1));
+    for (size_t n = 0; n < sizeof counts / sizeof *counts; n++) {
+        /* the head and both sectors are asked for at once */
+        begin(&file);
+        CHECK(paxidore_log_file_size(&count, PIECES) == PAXIDORE_E_MORE && read_so_far.pieces.places_len == 2);
+        CHECK(read_so_far.places[0].at == 0 && read_so_far.places[0].len == 96);
+        CHECK(read_so_far.places[1].at == SECTOR && read_so_far.places[1].len == 64);
+        /* it is opened, and stays as it is */
+        wanted = file;
+        ASKED(answer, &file, paxidore_log_file_make(PLAN, PIECES));
+        CHECK(answer == PAXIDORE_OK && plan.steps.bytes_len <= paxidore_log_file_room(0));
+        carry_out(&file, plan.steps.places_len, 0);
+        CHECK(is_same(&file, &wanted));
+        /* its first sector is lost: it is read, and not written */
+        torn = file;
+        memset(torn.bytes, n % 2 ? 0xa5 : 0, SECTOR);
+        CHECK(is_log_of(&torn, size, 1));
+        grown = 99;
+        ASKED(answer, &torn, paxidore_log_file_append(PLAN, &grown, PIECES, entries + size, counts[n], lengths, counts[n]));
+        CHECK(answer == PAXIDORE_E_HEAD && grown == 99 && plan.steps.places_len == 99 && plan.steps.bytes_len == 99);
+        ASKED(answer, &torn, paxidore_log_file_make(PLAN, PIECES));
+        CHECK(answer == PAXIDORE_E_HEAD && plan.steps.places_len == 99 && plan.steps.bytes_len == 99);
+        /* an append, whose steps stop somewhere */
+        count = counts[n];
+        ASKED(answer, &dense, paxidore_log_file_append(PLAN, &grown, PIECES, entries + size, count, lengths, count));
+        CHECK(answer == PAXIDORE_OK);
+        carry_out(&dense, plan.steps.places_len, 0);
+        ASKED(answer, &file, paxidore_log_file_append(PLAN, &grown, PIECES, entries + size, count, lengths, count));
+        CHECK(answer == PAXIDORE_OK && grown == size + count && read_so_far.turns <= 3);
+        CHECK(plan.steps.bytes_len <= paxidore_log_file_room(count) && plan.steps.places_len <= PAXIDORE_LOG_STEPS_MAX);
+        keep(entries + size, count, lengths, count);
+        struct plan whole = plan;
+        for (size_t step = 0; step < whole.steps.places_len; step++)
+            for (size_t part = 0; part <= whole.places[step].len; part++) {
+                torn = file, plan = whole;
+                carry_out(&torn, step, part);
+                CHECK(is_log_of(&torn, size, 0) || is_log_of(&torn, grown, 0));
+            }
+        plan = whole;
+        carry_out(&file, plan.steps.places_len, 0);
+        lay_apart(&wanted, &dense);
+        CHECK(is_same(&file, &wanted));
+        /* its second sector is lost: it is read, and its slot is written again */
+        torn = file;
+        memset(torn.bytes + SECTOR, 0, SECTOR);
+        CHECK(is_log_of(&torn, grown, 1));
+        if (size + count < MOST) {
+            size_t more;
+            ASKED(answer, &torn, paxidore_log_file_append(PLAN, &more, PIECES, entries + grown, 1, lengths, 1));
+            CHECK(answer == PAXIDORE_OK && more == grown + 1);
+            carry_out(&torn, plan.steps.places_len, 0);
+            ASKED(answer, &torn, paxidore_log_file_size(&more, PIECES));
+            CHECK(answer == PAXIDORE_OK && more == grown + 1 && paxidore_log_file_check(torn.bytes, torn.len) == PAXIDORE_OK);
+        }
+        size = grown;
+        CHECK(is_log_of(&file, size, 1));
+    }
+    /* a digest that is damaged */
+    torn = file;
+    torn.bytes[2 * SECTOR] ^= 1;
+    CHECK(paxidore_log_file_check(torn.bytes, torn.len) == PAXIDORE_NOT_SHOWN);
+    /* neither slot is whole */
+    torn = file;
+    torn.bytes[32] ^= 1, torn.bytes[SECTOR + 32] ^= 1;
+    ASKED(answer, &torn, paxidore_log_file_size(&count, PIECES));
+    CHECK(answer == PAXIDORE_E_HEAD && paxidore_log_file_check(torn.bytes, torn.len) == answer);
+    /* a file that is shorter */
+    for (size_t len = 0; len < file.len; len++) {
+        torn = file;
+        torn.len = len;
+        ASKED(answer, &torn, paxidore_log_file_size(&count, PIECES));
+        CHECK(answer == (len < 2 * SECTOR ? PAXIDORE_E_NO_LOG : PAXIDORE_E_SHORT));
+        CHECK(paxidore_log_file_check(torn.bytes, len) == answer);
+    }
+}
+
 int main(void) {
     appends();
+    lies_apart();
     CHECK(paxidore_log_file_room(3) >= 6 * 32 && paxidore_log_file_room(SIZE_MAX) == SIZE_MAX);
     CHECK(strcmp(paxidore_strerror(PAXIDORE_E_MORE), "unknown answer") != 0);
     CHECK(strcmp(paxidore_strerror(PAXIDORE_E_NO_LOG), "unknown answer") != 0);

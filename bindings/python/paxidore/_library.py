@@ -106,7 +106,7 @@ class ShortLog(Refused, ValueError):
 
 
 class DamagedHead(Refused, ValueError):
-    """The file has the title of a log's, and neither of its two slots is whole."""
+    """The file has the title of a log's, and neither of its two slots is whole; or its first sector is lost, and it is to be written."""
 
     code = -13
 

@@ -16,9 +16,6 @@ _Flat = Tuple[bytes, int, "ctypes.Array[ctypes.c_size_t]", int]
 _PIECES = 384
 _STEPS = 8
 
-# how many bytes the file of a log without entries has
-_HEAD = 96
-
 
 class _Piece(ctypes.Structure):
     """Some bytes of a file: where they begin, and how many they are."""
@@ -135,7 +132,7 @@ class _File:
     def make(self) -> None:
         self.carry_out(self.steps_of(_file_make, _file_room(0)))
         # whoever made a log that has no entry may have ended before its name was on the disk
-        if os.fstat(self.number()).st_size <= _HEAD:
+        if self.asked_size() == 0:
             folder = os.open(os.path.dirname(self.path), os.O_RDONLY | os.O_CLOEXEC)
             try:
                 os.fsync(folder)

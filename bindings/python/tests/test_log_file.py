@@ -14,6 +14,25 @@ from paxidore import Log
 from log_model import drawn, entry_digests, mth, proofs_are, ROUNDS, sha, stored
 
 
+SECTOR_TITLE = b"paxidore log of SHA-256, sectors"
+
+
+def apart(data):
+    """The file with sectors of a log's file."""
+    first, second = SECTOR_TITLE + data[32:64], SECTOR_TITLE + data[64:96]
+    return first.ljust(4096, b"\0") + second.ljust(4096, b"\0") + data[96:]
+
+
+def written(path, data):
+    with open(path, "wb") as file:
+        file.write(data)
+
+
+def read(path):
+    with open(path, "rb") as file:
+        return file.read()
+
+
 class InFile(unittest.TestCase):
     def setUp(self):
         # in memory where there is such a folder, since a thousand processes sync several times each
@@ -301,6 +320,92 @@ class InFile(unittest.TestCase):
         with open(self.path, "wb") as file:
             file.write(whole[:32] + bytes(64) + whole[96:])
         self.assertRaises(paxidore.DamagedHead, Log.open, self.path)
+
+    def file_of(self, entries):
+        # the log's file of these entries
+        path = self.path + "-dense"
+        if os.path.exists(path):
+            os.remove(path)
+        with Log.open(path) as log:
+            log.append(entries)
+        return read(path)
+
+    def test_slots_in_two_sectors(self):
+        """It answers as the log whose slots lie in one, and lies as it did."""
+        entries = drawn(12)
+        digests = entry_digests(entries)
+        for size in (0, 1, 2, 5, 11):
+            whole = apart(self.file_of(entries[:size]))
+            written(self.path, whole)
+            with Log.open(self.path) as log:
+                self.assertEqual(read(self.path), whole)
+                self.assertEqual((len(log), log.root(), log.check()), (size, mth(digests[:size]), True))
+                proofs_are(self, log, digests, size)
+                self.assertEqual(log.append(entries[size:]), 12)
+                self.assertEqual((log.root(), log.check()), (mth(digests), True))
+            self.assertEqual(read(self.path), apart(self.file_of(entries)))
+
+    def test_a_sector_that_is_lost(self):
+        """Without its second sector a log is read and goes on; without its first one it is read, and nothing is appended."""
+        entries = drawn(12)
+        digests = entry_digests(entries)
+        for size in (0, 1, 2, 5, 11):
+            whole = apart(self.file_of(entries[:size]))
+            written(self.path, whole[:4096] + bytes(4096) + whole[8192:])
+            with Log.open(self.path) as log:
+                self.assertEqual((len(log), log.root(), log.check()), (size, mth(digests[:size]), True))
+                proofs_are(self, log, digests, size)
+                self.assertEqual(log.append(entries[size:]), 12)
+            with Log.open(self.path) as log:
+                self.assertEqual((len(log), log.root()), (12, mth(digests)))
+            for lost in (bytes(4096), os.urandom(4096)):
+                written(self.path, lost + whole[4096:])
+                with Log.open(self.path, read_only=True) as log:
+                    self.assertEqual((len(log), log.root(), log.check()), (size, mth(digests[:size]), True))
+                    proofs_are(self, log, digests, size)
+                self.assertRaises(paxidore.DamagedHead, Log.open, self.path)
+                self.assertEqual(read(self.path), lost + whole[4096:])
+
+    def test_a_sector_that_is_lost_meanwhile(self):
+        """An append is refused by name, and writes nothing."""
+        whole = apart(self.file_of(drawn(5)))
+        written(self.path, whole)
+        with Log.open(self.path) as log:
+            with open(self.path, "r+b") as file:
+                file.write(bytes(4096))
+            self.assertRaises(paxidore.DamagedHead, log.append, [b"more"])
+            self.assertEqual(len(log), 5)
+        self.assertEqual(read(self.path), bytes(4096) + whole[4096:])
+
+    def test_sectors_and_a_step_that_is_cut(self):
+        """Whichever steps of an append are written, the log is as it was or has the entries."""
+        entries = drawn(9)
+        digests = entry_digests(entries)
+        before = apart(self.file_of(entries[:5]))
+        real = os.pwrite
+        for fails_at in range(1, 6):
+            for part in (0, 1, 7):
+                written(self.path, before)
+                with Log.open(self.path) as log:
+                    count = [0]
+
+                    def write(file, view, at):
+                        count[0] += 1
+                        if count[0] == fails_at:
+                            real(file, view[:part], at)
+                            raise OSError("no space")
+                        return real(file, view, at)
+
+                    os.pwrite = write
+                    try:
+                        log.append(entries[5:])
+                    except OSError:
+                        self.assertEqual(count[0], fails_at)
+                    finally:
+                        os.pwrite = real
+                with Log.open(self.path) as log:
+                    self.assertIn(len(log), (5, 9))
+                    self.assertEqual((log.root(), log.check()), (mth(digests[: len(log)]), True))
 
     def test_a_forked_process(self):
         """It does not have the log of its parent, nor its lock."""

@@ -29,9 +29,6 @@ pub(crate) struct LogFile {
 const PIECES: usize = 384;
 const STEPS: usize = 8;
 
-// How many bytes the file of a log without entries has.
-const HEAD: u64 = 96;
-
 // What is to be written: the places and counts of steps, and their bytes.
 struct Plan {
     steps: Vec<Piece>,
@@ -104,20 +101,23 @@ impl LogFile {
             is_unknown: false,
             is_refused: false,
         };
-        match file.made() {
-            Ok(plan) => {
-                file.carry_out(&plan)?;
-                // whoever made a log that has no entry may have ended before its name was on the disk
-                if file.file.metadata()?.len() <= HEAD {
-                    sync_folder(&file.path)?;
-                }
-                Ok(file)
-            }
+        match file.begun() {
+            Ok(()) => Ok(file),
             Err(LogError::Io(error)) => Err(error),
             Err(LogError::Refused(refused)) => {
                 Err(io::Error::new(io::ErrorKind::InvalidData, refused))
             }
         }
+    }
+
+    // Writes the head of a new log, or that of the file again.
+    fn begun(&self) -> Result<(), LogError> {
+        self.carry_out(&self.made()?)?;
+        // whoever made a log that has no entry may have ended before its name was on the disk
+        if self.size()? == 0 {
+            sync_folder(&self.path)?;
+        }
+        Ok(())
     }
 
     pub(crate) fn open_read_only(path: &Path) -> io::Result<LogFile> {
@@ -241,8 +241,7 @@ impl LogFile {
         self.keep_name()?;
         if self.is_refused {
             // what is read may be gone after a power failure
-            let plan = self.made()?;
-            self.carry_out(&plan)?;
+            self.begun()?;
             self.is_refused = false;
         }
         let mut size = own;

@@ -250,6 +250,83 @@ fn files() -> Result<(), LogError> {
     Ok(())
 }
 
+const SECTOR: usize = 4096;
+
+// The file with sectors of a log's file.
+fn apart(dense: &[u8]) -> Vec<u8> {
+    let mut file = vec![0; 2 * SECTOR];
+    for (slot, at) in [(32, 0), (64, SECTOR)] {
+        file[at..at + 32].copy_from_slice(b"paxidore log of SHA-256, sectors");
+        file[at + 32..at + 64].copy_from_slice(&dense[slot..slot + 32]);
+    }
+    file.extend_from_slice(&dense[96..]);
+    file
+}
+
+// The log's file of these entries.
+fn dense(room: &Room, entries: &[Vec<u8>]) -> Result<Vec<u8>, LogError> {
+    let path = room.0.join("dense");
+    let _ = fs::remove_file(&path);
+    Log::open(&path)?.append(entries)?;
+    Ok(fs::read(path)?)
+}
+
+// The log has these entries' digests.
+fn is_log_of(log: &Log, leaves: &[Digest]) -> Result<(), LogError> {
+    assert_eq!(log.len(), leaves.len());
+    assert_eq!(log.root(leaves.len())?, mth(leaves));
+    for index in 0..leaves.len() {
+        let proof = log.inclusion(leaves.len(), index)?;
+        assert_eq!(proof, path(index, leaves).concat());
+    }
+    assert!(log.check()?);
+    Ok(())
+}
+
+#[test]
+fn slots_in_two_sectors() -> Result<(), LogError> {
+    let room = Room::new("sectors");
+    let entries = entries(12);
+    let leaves = digests(&entries);
+    for size in [0, 1, 2, 5, 11] {
+        let whole = apart(&dense(&room, &entries[..size])?);
+        fs::write(room.log(), &whole)?;
+        let mut log = Log::open(room.log())?;
+        assert_eq!(fs::read(room.log())?, whole);
+        is_log_of(&log, &leaves[..size])?;
+        assert_eq!(log.append(&entries[size..])?, 12);
+        is_log_of(&log, &leaves)?;
+        assert_eq!(fs::read(room.log())?, apart(&dense(&room, &entries)?));
+        drop(log);
+        // without its second sector it goes on
+        let mut lost = whole.clone();
+        lost[SECTOR..2 * SECTOR].fill(0);
+        fs::write(room.log(), &lost)?;
+        let mut log = Log::open(room.log())?;
+        is_log_of(&log, &leaves[..size])?;
+        assert_eq!(log.append(&entries[size..])?, 12);
+        drop(log);
+        is_log_of(&Log::open(room.log())?, &leaves)?;
+        // without its first one it is read, and nothing is written
+        let mut lost = whole.clone();
+        lost[..SECTOR].fill(0);
+        fs::write(room.log(), &lost)?;
+        is_log_of(&Log::open_read_only(room.log())?, &leaves[..size])?;
+        assert_eq!(
+            Log::open(room.log()).unwrap_err().kind(),
+            ErrorKind::InvalidData
+        );
+        assert_eq!(fs::read(room.log())?, lost);
+        // nor while it is open
+        fs::write(room.log(), &whole)?;
+        let mut log = Log::open(room.log())?;
+        fs::write(room.log(), &lost)?;
+        assert_eq!(refusal(log.append(&["more"])), Refused::DamagedHead);
+        assert_eq!(fs::read(room.log())?, lost);
+    }
+    Ok(())
+}
+
 #[test]
 fn each_bit_of_the_head() -> Result<(), LogError> {
     let room = Room::new("bits");

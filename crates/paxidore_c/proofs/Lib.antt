@@ -1,10 +1,12 @@
 pub mod Answering
 pub mod Codes
 pub mod Hashed
+pub mod HeadLogs
 pub mod Cutting
 pub mod Keeping
 pub mod KeptGiven
 pub mod KeptLogs
+pub mod Layouts
 pub mod Lengths
 pub mod LogCalls
 pub mod MapLemmas

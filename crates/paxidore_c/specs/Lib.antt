@@ -5,6 +5,7 @@ pub mod Hashing
 pub mod KeptAnswer
 pub mod KeptLog
 pub mod Laws
+pub mod Layouts
 pub mod LogFiles
 pub mod LogProofs
 pub mod Maps

@@ -4,6 +4,8 @@ use Rattle.std.specs.List.{between, list_all}
 use Rattle.log_file.specs.declared.fault.Fault.{Fault}
 use Rattle.log_file.specs.declared.fault.Fault.TheVariants.{Memory as MemoryFault, NoLog as NoLogFault, HeadDamaged as HeadFault, Short as ShortFault, Damaged as DamageFault, Size as SizeFault, Other as OtherFault, Index as IndexFault, Length as LengthFault, Word as WordFault}
 use Rattle.log_store.specs.Refused.{IsDamaged}
+use Rattle.log_store.specs.declared.sectors.SectorRefusal.{SectorRefusal}
+use Rattle.log_store.specs.declared.sectors.SectorRefusal.TheVariants.{Disk as ByFile, Place, Short as NoSectors}
 use Rattle.log_store.specs.declared.stop.Stop.{Stop}
 use Rattle.log_store.specs.declared.stop.Stop.TheVariants.{Fault as ByFault, Disk as ByDisk}
 use Rattle.paxidore_c.specs.Answer.{refusal_code}
@@ -46,11 +48,13 @@ not_done_of LengthFault = Refusal Other
 not_done_of WordFault = Refusal Other
 
 -- why a call is not done that stopped, by the file or by what was read of it
-abbrev pub not_done_at : Stop Halt → NotDone
+abbrev pub not_done_at : Stop (SectorRefusal Halt) → NotDone
 not_done_at (ByFault fault) = not_done_of fault
-not_done_at (ByDisk NoMemory) = Refusal Memory
-not_done_at (ByDisk Ended) = Refusal Other
-not_done_at (ByDisk Missing) = Refusal Other
+not_done_at (ByDisk (ByFile NoMemory)) = Refusal Memory
+not_done_at (ByDisk (ByFile Ended)) = Refusal Other
+not_done_at (ByDisk (ByFile Missing)) = Refusal Other
+not_done_at (ByDisk Place) = Refusal Other
+not_done_at (ByDisk NoSectors) = Refusal Other
 
 -- an outcome for a log's file, with the reasons of these calls
 abbrev pub not_done_for : {A : Type 0} → Result A Fault → Result A NotDone
@@ -70,6 +74,10 @@ IsReason file outcome why = (not_done_for outcome ≡ Err why) ⊎ (why ≡ Refu
 -- Why a call on a file is not done that needs no log there: memory was refused, or the caller.
 abbrev pub IsPlainReason : NotDone → Type 0
 IsPlainReason why = (why ≡ Refusal Memory) ⊎ IsOfCaller why
+
+-- Why a call on a file is not done that would write its head: the same, or its first sector is lost.
+abbrev pub IsHeadReason : NotDone → Type 0
+IsHeadReason why = IsPlainReason why ⊎ (why ≡ HeadDamaged)
 
 -- The code is 0, or that of such a reason.
 abbrev pub TellsWhy : (NotDone → Type 0) → ℤ → Type 0

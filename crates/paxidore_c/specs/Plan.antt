@@ -3,8 +3,10 @@ use Rattle.std.specs.Prelude.{◌≡◌, ◌⊎◌, ◌+◌, ◌<◌, ◌≤◌,
 use Rattle.std.specs.List.{flat_map}
 use Rattle.ark_paths.specs.Pair.{Digest}
 use Rattle.log_store.specs.Disk.{Torn}
+use Rattle.log_store.specs.Sectors.{layout_in}
 use Rattle.log_store.specs.Store.{IsBeforeOrAfter, IsSettled}
 use Rattle.log_file.specs.LogFile.{written}
+use Rattle.paxidore_c.specs.Layouts.{log_in}
 use Rattle.paxidore_c.specs.declared.file_calls.replay.Step.{Step}
 
 -- The bytes are those of pieces of a file, one behind the other. A piece is a place and a count.
@@ -68,13 +70,15 @@ pub record LeavesSteps (LacksRoom : Type 0) (bytes_before bytes_after : List ℕ
   pub uncounted : (LacksRoom → ⊥)
       → (bytes_count_after ≡ bytes_count_before) × (steps_count_after ≡ steps_count_before)
 
--- A caller is handed steps that append leaves to the file of a log, and the new size.
+-- A caller is handed steps that append leaves to the log of a file, and the new size.
 pub record Grows (leaves more : List Digest) (file bytes_before bytes_after : List ℕ) (bytes_count : ℕ)
     (steps_before steps_after : List (List ℕ)) (steps_count size : ℕ) : Type 0 where
   pub plan : List Step
   pub handed : IsHanded plan bytes_before bytes_after bytes_count steps_before steps_after steps_count
   -- once all is carried out, the file is that of the log with the leaves, also where one of its two slots is lost
-  pub settled : IsSettled (leaves ++ more) (carried plan file)
+  pub settled : IsSettled (leaves ++ more) (log_in (carried plan file))
   -- wherever that stops, it is that of the log as it was, or with the leaves
-  pub stopped : (left : List ℕ) → IsStopped plan file left → IsBeforeOrAfter leaves more file left
+  pub stopped : (left : List ℕ) → IsStopped plan file left → IsBeforeOrAfter leaves more (log_in file) (log_in left)
+  -- and it lies as it did
+  pub layout : (left : List ℕ) → IsStopped plan file left → layout_in left ≡ layout_in file
   pub size_is : size ≡ length leaves + length more

@@ -4,6 +4,9 @@
 //! first, and puts their places behind those of the ones that were read. What is to be written is handed over in steps, each a
 //! place and a count of bytes. What the clauses say of a file holds of whichever file the pieces are of.
 //!
+//! The file may have its two slots in one sector or in two. The calls take it as the log's file that it is (`log_in`); places and steps
+//! are those of the file itself, which stays as it lies.
+//!
 //! Each call but the check answers the first of `E_ROOM` where there is none for places, `E_LENGTHS` where the pieces have not as
 //! many bytes as their places say, and `E_MORE`; then 0, or a refusal of its own; `E_MEMORY` in place of any. `E_MORE` writes places,
 //! `E_ROOM` for a buffer the counts that are needed, and no other refusal anything.
@@ -11,37 +14,40 @@
 ghost use Rattle.std.specs.Prelude.{◌≡◌, ◌≢◌, ◌⊎◌, ◌<◌, ◌≤◌, ◌+◌, ◌*◌, ◌^◌, List, ℕ, [], Bool, length, map, pos, negsuc, IfErr, OnOk, Ok, Err, Some};
 ghost use Rattle.ark_paths.specs.Pair.{Digest};
 ghost use Rattle.ark_trees.specs.Rfc6962.{entry_hash};
-ghost use Rattle.log_file.specs.Append.{appended_size};
 ghost use Rattle.log_file.specs.Faults.{log_size, of_first};
-ghost use Rattle.log_file.specs.LogFile.{stored_in, IsLogFile};
+ghost use Rattle.log_file.specs.LogFile.{stored_in};
 ghost use Rattle.log_store.specs.Store.{new_head, IsPartOf, IsSettled};
 ghost use Rattle.merkle_log.specs.Kept.{front, Keeps};
 ghost use Rattle.merkle_log.specs.Stored.{row_at};
 ghost use Rattle.paxidore_c.specs.Answer.{leaves_in, refusal_code};
 ghost use Rattle.paxidore_c.specs.Cut.{parts_by};
 ghost use Rattle.paxidore_c.specs.KeptLog.{log_root};
-ghost use Rattle.paxidore_c.specs.LogFiles.{AsksFirst, IsPlainReason, IsReason, TellsWhy, call_code, check_code};
+ghost use Rattle.paxidore_c.specs.Layouts.{grown_size, log_in, HasLog, IsFirstLost, IsSameLog};
+ghost use Rattle.paxidore_c.specs.LogFiles.{AsksFirst, IsHeadReason, IsReason, TellsWhy, call_code, check_code};
 ghost use Rattle.paxidore_c.specs.Plan.{Carries, Grows, HasRead, IsHanded, LeavesSteps};
-ghost use Rattle.paxidore_c.specs.declared.file_calls.not_done.NotDone.TheVariants.{More, Refusal};
+ghost use Rattle.paxidore_c.specs.declared.file_calls.not_done.NotDone.TheVariants.{HeadDamaged, More, Refusal};
 ghost use Rattle.paxidore_c.specs.declared.refused.Refused.TheVariants.{Room};
 
 mod answers;
 mod asked;
 mod asking;
+mod checked;
 mod grown;
 mod handed;
+mod laid;
+mod layouts;
 mod not_done;
 pub mod proving;
 mod replay;
 
 use crate::file_calls::answers::{made_of, root_of, size_of};
 use crate::file_calls::asked::{Asked, ask};
+use crate::file_calls::checked::log_laid;
 use crate::file_calls::grown::hand_over_growth;
 use crate::file_calls::handed::hand_over_steps;
 use crate::file_calls::not_done::NotDone;
 use crate::leaves::digests_of_leaves;
 use ark_trees::LogHasher;
-use log_file::file::log_in;
 use std::alloc::Global;
 use std::marker::Brand;
 
@@ -78,6 +84,7 @@ fn code_of(done: Result<(), NotDone>) -> i32
     ensures asked { done ≡ Err More → result ≡ negsuc 9 }
     ensures done { result ≡ pos 0 → IfErr done (λ _. ⊥) }
     ensures room { result ≡ refusal_code Room → done ≡ Err (Refusal Room) }
+    ensures head { result ≡ negsuc 12 → done ≡ Err HeadDamaged }
 {
     match done {
         Ok(()) => 0,
@@ -100,16 +107,20 @@ fn made_in(
     ensures first { AsksFirst (result ≡ Err More) file_len places_len.old places_len.new
         places.old places.new }
     ensures same { HasRead file file_len places_len.old places.old pieces.now
-        → (leaves : List Digest) → IsLogFile leaves file
-        → OnOk result (Carries (λ left. left ≡ file) file bytes.old bytes.new bytes_len.new
+        → (leaves : List Digest) → HasLog leaves file
+        → OnOk result (Carries (IsSameLog file) file bytes.old bytes.new bytes_len.new
         steps.old steps.new steps_len.new) }
     ensures made { HasRead file file_len places_len.old places.old pieces.now → file ≡ []
-        → OnOk result (Carries (IsSettled []) file bytes.old bytes.new bytes_len.new
-        steps.old steps.new steps_len.new) }
+        → OnOk result (Carries (λ left. IsSettled [] (log_in left)) file bytes.old bytes.new
+        bytes_len.new steps.old steps.new steps_len.new) }
     ensures others { HasRead file file_len places_len.old places.old pieces.now
-        → IsPartOf new_head file ⊎ OnOk result (Carries (λ left. left ≡ file) file bytes.old
+        → IsPartOf new_head (log_in file) ⊎ OnOk result (Carries (IsSameLog file) file bytes.old
         bytes.new bytes_len.new steps.old steps.new steps_len.new) }
-    ensures refused { IfErr result IsPlainReason }
+    ensures lost { HasRead file file_len places_len.old places.old pieces.now
+        → IsFirstLost file → OnOk result ⊥ }
+    ensures head { HasRead file file_len places_len.old places.old pieces.now
+        → IfErr result (λ why. why ≡ HeadDamaged → IsFirstLost file) }
+    ensures refused { IfErr result IsHeadReason }
     ensures left { IfErr result (λ why. LeavesSteps (why ≡ Refusal Room) bytes.old bytes.new
         bytes_len.old bytes_len.new steps.old steps.new steps_len.old steps_len.new) }
 {
@@ -128,7 +139,8 @@ pub extern "C" fn paxidore_log_file_room(count: usize) -> usize
 }
 
 /// Hands over what is to be written to a file before a keeper uses it: the head of a log of no entries, where it has no byte or
-/// no more than a part of that head; else its own head again. Its own refusal: `E_ROOM` for `bytes` and `steps`.
+/// no more than a part of that head; else its own head again. Its own refusals: `E_HEAD` where the first sector of a file with sectors
+/// is lost, `E_ROOM` for `bytes` and `steps`.
 #[unsafe(no_mangle)]
 pub extern "C" fn paxidore_log_file_make(
     alloc: Global,
@@ -139,26 +151,33 @@ pub extern "C" fn paxidore_log_file_make(
     ensures first { AsksFirst (result ≡ negsuc 9) pieces.old.file_len pieces.old.places_len
         pieces.new.places_len pieces.old.places.now pieces.new.places.now }
 
-    // Once all is carried out, the file of a log is as it is, ..
+    // Once all is carried out, the log's file is as it is, ..
     ensures same { HasRead file pieces.old.file_len pieces.old.places_len pieces.old.places.now
-        pieces.old.bytes.now → (leaves : List Digest) → IsLogFile leaves file → result ≡ pos 0
-        → Carries (λ left. left ≡ file) file
+        pieces.old.bytes.now → (leaves : List Digest) → HasLog leaves file
+        → result ≡ pos 0 → Carries (IsSameLog file) file
         steps.old.bytes.now steps.new.bytes.now steps.new.bytes_len
         steps.old.places.now steps.new.places.now steps.new.places_len }
 
     // .. and one that has no byte has the log of no entries, and stays it if one of its slots is lost.
     ensures made { HasRead file pieces.old.file_len pieces.old.places_len pieces.old.places.now
         pieces.old.bytes.now → file ≡ [] → result ≡ pos 0
-        → Carries (IsSettled []) file steps.old.bytes.now steps.new.bytes.now steps.new.bytes_len
+        → Carries (λ left. IsSettled [] (log_in left)) file
+        steps.old.bytes.now steps.new.bytes.now steps.new.bytes_len
         steps.old.places.now steps.new.places.now steps.new.places_len }
 
     // What is neither empty nor a part of that head stays as it is.
     ensures others { HasRead file pieces.old.file_len pieces.old.places_len pieces.old.places.now
-        pieces.old.bytes.now → result ≡ pos 0 → IsPartOf new_head file
-        ⊎ Carries (λ left. left ≡ file) file
+        pieces.old.bytes.now → result ≡ pos 0 → IsPartOf new_head (log_in file)
+        ⊎ Carries (IsSameLog file) file
         steps.old.bytes.now steps.new.bytes.now steps.new.bytes_len
         steps.old.places.now steps.new.places.now steps.new.places_len }
-    ensures refused { TellsWhy IsPlainReason result }
+
+    // Where the first sector is lost, and only there, the head counts as damaged: nothing is to be written.
+    ensures lost { HasRead file pieces.old.file_len pieces.old.places_len pieces.old.places.now
+        pieces.old.bytes.now → IsFirstLost file → result ≢ pos 0 }
+    ensures head { HasRead file pieces.old.file_len pieces.old.places_len pieces.old.places.now
+        pieces.old.bytes.now → result ≡ negsuc 12 → IsFirstLost file }
+    ensures refused { TellsWhy IsHeadReason result }
     ensures left { result ≢ pos 0 → LeavesSteps (result ≡ refusal_code Room) steps.old.bytes.now
         steps.new.bytes.now steps.old.bytes_len steps.new.bytes_len steps.old.places.now
         steps.new.places.now steps.old.places_len steps.new.places_len }
@@ -193,10 +212,10 @@ fn size_in(
     ensures first { AsksFirst (result ≡ Err More) file_len places_len.old places_len.new
         places.old places.new }
     ensures size { HasRead file file_len places_len.old places.old pieces.now
-        → (leaves : List Digest) → IsLogFile leaves file
+        → (leaves : List Digest) → HasLog leaves file
         → OnOk result (size.new ≡ length leaves) }
     ensures refused { HasRead file file_len places_len.old places.old pieces.now
-        → IfErr result (IsReason file (log_size file)) }
+        → IfErr result (IsReason (log_in file) (log_size (log_in file))) }
     ensures size_kept { IfErr result (λ _. size.new ≡ size.old) }
 {
     ask(alloc, Asked::Size, file_len, places, places_len, pieces)?;
@@ -215,10 +234,10 @@ pub extern "C" fn paxidore_log_file_size(
     ensures first { AsksFirst (result ≡ negsuc 9) pieces.old.file_len pieces.old.places_len
         pieces.new.places_len pieces.old.places.now pieces.new.places.now }
     ensures size { HasRead file pieces.old.file_len pieces.old.places_len pieces.old.places.now
-        pieces.old.bytes.now → (leaves : List Digest) → IsLogFile leaves file → result ≡ pos 0
+        pieces.old.bytes.now → (leaves : List Digest) → HasLog leaves file → result ≡ pos 0
         → size.new ≡ length leaves }
     ensures refused { HasRead file pieces.old.file_len pieces.old.places_len pieces.old.places.now
-        pieces.old.bytes.now → TellsWhy (IsReason file (log_size file)) result }
+        pieces.old.bytes.now → TellsWhy (IsReason (log_in file) (log_size (log_in file))) result }
     ensures size_kept { result ≢ pos 0 → size.new ≡ size.old }
     ensures lent { (pieces.new.places.ghost_name ≡ pieces.old.places.ghost_name)
         × (pieces.new.bytes.now ≡ pieces.old.bytes.now)
@@ -247,10 +266,10 @@ fn root_in(
     ensures first { AsksFirst (result ≡ Err More) file_len places_len.old places_len.new
         places.old places.new }
     ensures root { HasRead file file_len places_len.old places.old pieces.now
-        → (leaves : List Digest) → IsLogFile leaves file
+        → (leaves : List Digest) → HasLog leaves file
         → OnOk result ((size ≤ length leaves) × (log_root size leaves ≡ Ok root.new)) }
     ensures refused { HasRead file file_len places_len.old places.old pieces.now
-        → IfErr result (IsReason file (of_first file (Some size) Ok)) }
+        → IfErr result (IsReason (log_in file) (of_first (log_in file) (Some size) Ok)) }
     ensures root_kept { IfErr result (λ _. root.new ≡ root.old) }
 {
     ask(
@@ -278,10 +297,11 @@ pub extern "C" fn paxidore_log_file_root(
     ensures first { AsksFirst (result ≡ negsuc 9) pieces.old.file_len pieces.old.places_len
         pieces.new.places_len pieces.old.places.now pieces.new.places.now }
     ensures root { HasRead file pieces.old.file_len pieces.old.places_len pieces.old.places.now
-        pieces.old.bytes.now → (leaves : List Digest) → IsLogFile leaves file → result ≡ pos 0
+        pieces.old.bytes.now → (leaves : List Digest) → HasLog leaves file → result ≡ pos 0
         → (size ≤ length leaves) × (log_root size leaves ≡ Ok root.new) }
     ensures refused { HasRead file pieces.old.file_len pieces.old.places_len pieces.old.places.now
-        pieces.old.bytes.now → TellsWhy (IsReason file (of_first file (Some size) Ok)) result }
+        pieces.old.bytes.now
+        → TellsWhy (IsReason (log_in file) (of_first (log_in file) (Some size) Ok)) result }
     ensures root_kept { result ≢ pos 0 → root.new ≡ root.old }
     ensures lent { (pieces.new.places.ghost_name ≡ pieces.old.places.ghost_name)
         × (pieces.new.bytes.now ≡ pieces.old.bytes.now)
@@ -325,16 +345,18 @@ fn append_in(
     ensures first { AsksFirst (result ≡ Err More) file_len places_len.old places_len.new
         places.old places.new }
     ensures grows { HasRead file file_len places_len.old places.old pieces.now
-        → (leaves : List Digest) → IsLogFile leaves file → 0 < length lengths.now
+        → (leaves : List Digest) → HasLog leaves file → 0 < length lengths.now
         → OnOk result ((xs : List (List ℕ)) × (leaves_in (parts_by entries.now lengths.now) ≡ Ok xs)
         × Grows leaves (map entry_hash xs) file bytes.old bytes.new bytes_len.new
         steps.old steps.new steps_len.new size.new) }
     ensures none { HasRead file file_len places_len.old places.old pieces.now
-        → (leaves : List Digest) → IsLogFile leaves file → length lengths.now ≡ 0
+        → (leaves : List Digest) → HasLog leaves file → length lengths.now ≡ 0
         → OnOk result ((size.new ≡ length leaves)
         × IsHanded [] bytes.old bytes.new bytes_len.new steps.old steps.new steps_len.new) }
+    ensures lost { HasRead file file_len places_len.old places.old pieces.now
+        → IsFirstLost file → 0 < length lengths.now → OnOk result ⊥ }
     ensures refused { HasRead file file_len places_len.old places.old pieces.now
-        → IfErr result (IsReason file (appended_size file (length lengths.now))) }
+        → IfErr result (IsReason (log_in file) (grown_size file (length lengths.now))) }
     ensures left { IfErr result (λ why. LeavesSteps (why ≡ Refusal Room) bytes.old bytes.new
         bytes_len.old bytes_len.new steps.old steps.new steps_len.old steps_len.new) }
     ensures size_kept { IfErr result (λ _. size.new ≡ size.old) }
@@ -354,8 +376,9 @@ fn append_in(
     Ok(())
 }
 
-/// Hands over what is to be written to the file of a log to append entries, and writes the new size. Its own refusals: `E_LENGTHS`,
-/// those of the size, `E_DAMAGED`, `E_SIZE` for a new size of 2^63 and above, `E_ROOM` for `bytes` and `steps`.
+/// Hands over what is to be written to the file of a log to append entries, and writes the new size. Its own refusals: `E_LENGTHS`;
+/// `E_HEAD` where the first sector of a file with sectors is lost; those of the size, `E_DAMAGED`, `E_SIZE` for a new size of 2^63 and
+/// above, `E_ROOM` for `bytes` and `steps`.
 #[unsafe(no_mangle)]
 pub extern "C" fn paxidore_log_file_append(
     alloc: Global,
@@ -371,7 +394,7 @@ pub extern "C" fn paxidore_log_file_append(
 
     // Of entries, the steps append the hashes to the log.
     ensures grows { HasRead file pieces.old.file_len pieces.old.places_len pieces.old.places.now
-        pieces.old.bytes.now → (leaves : List Digest) → IsLogFile leaves file
+        pieces.old.bytes.now → (leaves : List Digest) → HasLog leaves file
         → 0 < length lengths.now → result ≡ pos 0
         → (xs : List (List ℕ)) × (leaves_in (parts_by entries.now lengths.now) ≡ Ok xs)
         × Grows leaves (map entry_hash xs) file
@@ -381,13 +404,17 @@ pub extern "C" fn paxidore_log_file_append(
 
     // For none there is no step.
     ensures none { HasRead file pieces.old.file_len pieces.old.places_len pieces.old.places.now
-        pieces.old.bytes.now → (leaves : List Digest) → IsLogFile leaves file
+        pieces.old.bytes.now → (leaves : List Digest) → HasLog leaves file
         → length lengths.now ≡ 0 → result ≡ pos 0 → (size.new ≡ length leaves)
         × IsHanded [] steps.old.bytes.now steps.new.bytes.now steps.new.bytes_len
         steps.old.places.now steps.new.places.now steps.new.places_len }
+
+    // Nothing is appended to a file with sectors whose first one is lost.
+    ensures lost { HasRead file pieces.old.file_len pieces.old.places_len pieces.old.places.now
+        pieces.old.bytes.now → IsFirstLost file → 0 < length lengths.now → result ≢ pos 0 }
     ensures refused { HasRead file pieces.old.file_len pieces.old.places_len pieces.old.places.now
         pieces.old.bytes.now
-        → TellsWhy (IsReason file (appended_size file (length lengths.now))) result }
+        → TellsWhy (IsReason (log_in file) (grown_size file (length lengths.now))) result }
     ensures left { result ≢ pos 0 → LeavesSteps (result ≡ refusal_code Room) steps.old.bytes.now
         steps.new.bytes.now steps.old.bytes_len steps.new.bytes_len steps.old.places.now
         steps.new.places.now steps.old.places_len steps.new.places_len }
@@ -419,18 +446,19 @@ pub extern "C" fn paxidore_log_file_append(
 /// Answers: 0 where it is, 1 where one is not; else `E_NO_LOG`, `E_HEAD`, `E_SHORT`.
 #[unsafe(no_mangle)]
 pub extern "C" fn paxidore_log_file_check(file: &[u8]) -> i32
-    ensures answer { (sound : Bool) × (result ≡ check_code (log_size file.now) sound) }
+    ensures answer { (sound : Bool) × (result ≡ check_code (log_size (log_in file.now)) sound) }
 
     // 0 says: the stored digests of the list of the leaves' own ones stand behind the head.
-    ensures sound { result ≡ pos 0 → (size : ℕ) × (log_size file.now ≡ Ok size)
-        × Keeps (row_at (front size (stored_in size file.now)) 0) (stored_in size file.now) }
+    ensures sound { result ≡ pos 0 → (size : ℕ) × (log_size (log_in file.now) ≡ Ok size)
+        × (let digests = stored_in size (log_in file.now) in
+        Keeps (row_at (front size digests) 0) digests) }
 
     // 1 says: those of no list of the log's size do.
     ensures damaged { result ≡ pos 1 → (leaves : List Digest)
-        → log_size file.now ≡ Ok (length leaves)
-        → Keeps leaves (stored_in (length leaves) file.now) → ⊥ }
+        → log_size (log_in file.now) ≡ Ok (length leaves)
+        → Keeps leaves (stored_in (length leaves) (log_in file.now)) → ⊥ }
 {
-    let log = match log_in(file) {
+    let log = match log_laid(file) {
         Ok(log) => log,
         Err(fault) => return NotDone::from(fault).code(),
     };

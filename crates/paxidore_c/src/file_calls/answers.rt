@@ -1,24 +1,25 @@
 //! What is said of a log's file by what was read of it, and what is to be written there. The file is that of the caller, whole.
 
-ghost use Rattle.std.specs.Prelude.{◌≡◌, ◌≢◌, ◌⊎◌, ◌≤◌, ◌<◌, ◌+◌, ◌++◌, List, ℕ, [], length, take, true, IfErr, IfOk, Ok, Err, Some};
+ghost use Rattle.std.specs.Prelude.{◌≡◌, ◌≢◌, ◌⊎◌, ◌≤◌, ◌<◌, ◌+◌, ◌++◌, List, ℕ, [], length, take, true, IfErr, IfOk, OnOk, Ok, Err, Some};
 ghost use Rattle.sha2.specs.Sha256.{sha256};
 ghost use Rattle.ark_paths.specs.Pair.{Digest};
 ghost use Rattle.ark_trees.specs.Rfc6962.{node_of};
 ghost use Rattle.log_store.specs.Refused.{index_outcome, older_outcome};
+ghost use Rattle.log_store.specs.Sectors.{layout_in};
 ghost use Rattle.log_store.specs.Store.{new_head, IsBeforeOrAfter, IsPartOf, IsSettled};
 ghost use Rattle.merkle_log.specs.Edge.{all_of};
 ghost use Rattle.merkle_log.specs.Log.{consistency_path, inclusion_path, merkle_tree_hash};
 ghost use Rattle.merkle_log.specs.Verdict.{consistency_verdict, inclusion_verdict};
-ghost use Rattle.log_file.specs.Append.{appended_size};
 ghost use Rattle.log_file.specs.Faults.{log_size, of_first};
-ghost use Rattle.log_file.specs.LogFile.{IsLogFile};
-ghost use Rattle.paxidore_c.specs.LogFiles.{IsPlainReason, IsReason};
+ghost use Rattle.paxidore_c.specs.Layouts.{grown_size, log_in, HasLog, IsFirstLost, IsSameLog};
+ghost use Rattle.paxidore_c.specs.LogFiles.{IsHeadReason, IsReason};
 ghost use Rattle.paxidore_c.specs.Plan.{IsReadOf, IsStopped, carried};
-ghost use Rattle.paxidore_c.specs.declared.file_calls.not_done.NotDone.TheVariants.{More, Refusal};
+ghost use Rattle.paxidore_c.specs.declared.file_calls.not_done.NotDone.TheVariants.{HeadDamaged, More, Refusal};
 ghost use Rattle.paxidore_c.specs.declared.refused.Refused.TheVariants.{Memory, Room};
 
+use crate::file_calls::laid::{laid_replay, steps_laid, writable_replay};
 use crate::file_calls::not_done::NotDone;
-use crate::file_calls::replay::{Held, Replay, Step};
+use crate::file_calls::replay::{Held, Step};
 use log_store::{ConsistencyProof, InclusionProof};
 use std::alloc::Global;
 
@@ -44,29 +45,38 @@ pub fn growth_of<F: Held>(
 
     // Once all is carried out, the file is that of the log with the entries; and so it is if one of its two slots is lost.
     ensures grown { IsReadOf F.places F.pieces F.file → F.size ≡ length F.file
-        → (leaves : List Digest) → IsLogFile leaves F.file
+        → (leaves : List Digest) → HasLog leaves F.file
         → IfOk result (λ growth. IsSettled (leaves ++ digests.now)
-        (carried growth.steps.items F.file)) }
+        (log_in (carried growth.steps.items F.file))) }
     ensures size { IsReadOf F.places F.pieces F.file → F.size ≡ length F.file
-        → (leaves : List Digest) → IsLogFile leaves F.file
+        → (leaves : List Digest) → HasLog leaves F.file
         → IfOk result (λ growth. growth.size ≡ length leaves + length digests.now) }
 
-    // Wherever that stops, the log is as it was, or with the entries.
+    // Wherever that stops, the log is as it was, or with the entries; and the file lies as it did.
     ensures stopped { IsReadOf F.places F.pieces F.file → F.size ≡ length F.file
-        → (leaves : List Digest) → IsLogFile leaves F.file
+        → (leaves : List Digest) → HasLog leaves F.file
         → IfOk result (λ growth. (left : List ℕ) → IsStopped growth.steps.items F.file left
-        → IsBeforeOrAfter leaves digests.now F.file left) }
+        → IsBeforeOrAfter leaves digests.now (log_in F.file) (log_in left)) }
+    ensures layout { IsReadOf F.places F.pieces F.file → F.size ≡ length F.file
+        → (leaves : List Digest) → HasLog leaves F.file
+        → IfOk result (λ growth. (left : List ℕ) → IsStopped growth.steps.items F.file left
+        → layout_in left ≡ layout_in F.file) }
+
+    // Nothing is appended to a file whose first sector is lost.
+    ensures lost { IsReadOf F.places F.pieces F.file → F.size ≡ length F.file
+        → IsFirstLost F.file → OnOk result ⊥ }
     ensures refused { IsReadOf F.places F.pieces F.file → F.size ≡ length F.file
-        → IfErr result (IsReason F.file (appended_size F.file (length digests.now))) }
+        → IfErr result (IsReason (log_in F.file) (grown_size F.file (length digests.now))) }
     ensures done { result ≢ Err More }
     ensures room { result ≢ Err (Refusal Room) }
 {
-    let mut disk = Replay::<F>::new(alloc, file_len, places, pieces);
-    match log_store::append(alloc, &mut disk, digests) {
-        Ok(size) => Ok(Growth {
-            size,
-            steps: disk.into_steps(),
-        }),
+    let mut own = writable_replay::<F>(alloc, file_len, places, pieces)?;
+    let layout = own.layout;
+    match log_store::append(alloc, &mut own, digests) {
+        Ok(size) => {
+            let steps = steps_laid::<F>(own, layout)?;
+            Ok(Growth { size, steps })
+        }
         Err(stop) => Err(NotDone::of_stop(stop)),
     }
 }
@@ -82,15 +92,15 @@ pub fn size_of<F: Held>(
     requires pieces { pieces.now ≡ F.pieces }
     requires bytes { file_len ≡ F.size }
     ensures size { IsReadOf F.places F.pieces F.file → F.size ≡ length F.file
-        → (leaves : List Digest) → IsLogFile leaves F.file
+        → (leaves : List Digest) → HasLog leaves F.file
         → IfOk result (λ size. size ≡ length leaves) }
     ensures refused { IsReadOf F.places F.pieces F.file → F.size ≡ length F.file
-        → IfErr result (IsReason F.file (log_size F.file)) }
+        → IfErr result (IsReason (log_in F.file) (log_size (log_in F.file))) }
     ensures done { result ≢ Err More }
     ensures room { result ≢ Err (Refusal Room) }
 {
-    let disk = Replay::<F>::new(alloc, file_len, places, pieces);
-    match log_store::size(&disk) {
+    let own = laid_replay::<F>(alloc, file_len, places, pieces)?;
+    match log_store::size(&own) {
         Ok(size) => Ok(size),
         Err(stop) => Err(NotDone::of_stop(stop)),
     }
@@ -108,16 +118,16 @@ pub fn root_of<F: Held>(
     requires pieces { pieces.now ≡ F.pieces }
     requires bytes { file_len ≡ F.size }
     ensures root { IsReadOf F.places F.pieces F.file → F.size ≡ length F.file
-        → (leaves : List Digest) → IsLogFile leaves F.file → IfOk result (λ root.
+        → (leaves : List Digest) → HasLog leaves F.file → IfOk result (λ root.
         (size ≤ length leaves)
         × (merkle_tree_hash node_of (sha256 []) (take size leaves) ≡ Ok root)) }
     ensures refused { IsReadOf F.places F.pieces F.file → F.size ≡ length F.file
-        → IfErr result (IsReason F.file (of_first F.file (Some size) Ok)) }
+        → let file = log_in F.file in IfErr result (IsReason file (of_first file (Some size) Ok)) }
     ensures done { result ≢ Err More }
     ensures room { result ≢ Err (Refusal Room) }
 {
-    let disk = Replay::<F>::new(alloc, file_len, places, pieces);
-    match log_store::root(&disk, Some(size)) {
+    let own = laid_replay::<F>(alloc, file_len, places, pieces)?;
+    match log_store::root(&own, Some(size)) {
         Ok(found) => Ok(found.1),
         Err(stop) => Err(NotDone::of_stop(stop)),
     }
@@ -156,25 +166,35 @@ pub fn made_of<F: Held>(
 
     // The file of a log stays as it is.
     ensures kept { IsReadOf F.places F.pieces F.file → F.size ≡ length F.file
-        → (leaves : List Digest) → IsLogFile leaves F.file
-        → IfOk result (λ steps. carried steps.items F.file ≡ F.file) }
+        → (leaves : List Digest) → HasLog leaves F.file
+        → IfOk result (λ steps. IsSameLog F.file (carried steps.items F.file)) }
 
     // A file that has no byte has the log of no entries, and stays it if one of its slots is lost.
     ensures made { IsReadOf F.places F.pieces F.file → F.size ≡ length F.file → F.file ≡ []
-        → IfOk result (λ steps. IsSettled [] (carried steps.items F.file)) }
+        → IfOk result (λ steps. IsSettled [] (log_in (carried steps.items F.file))) }
 
     // What is neither empty nor a part of that head stays as it is.
     ensures others { IsReadOf F.places F.pieces F.file → F.size ≡ length F.file
-        → IsPartOf new_head F.file
-        ⊎ IfOk result (λ steps. carried steps.items F.file ≡ F.file) }
-    ensures refused { IfErr result IsPlainReason }
+        → IsPartOf new_head (log_in F.file)
+        ⊎ IfOk result (λ steps. IsSameLog F.file (carried steps.items F.file)) }
+
+    // Where the first sector is lost, and only there, the head counts as damaged.
+    ensures lost { IsReadOf F.places F.pieces F.file → F.size ≡ length F.file
+        → IsFirstLost F.file → OnOk result ⊥ }
+    ensures head { IsReadOf F.places F.pieces F.file → F.size ≡ length F.file
+        → IfErr result (λ why. why ≡ HeadDamaged → IsFirstLost F.file) }
+    ensures refused { IfErr result IsHeadReason }
     ensures some { IfOk result (λ steps. 0 < length steps.items) }
     ensures done { result ≢ Err More }
     ensures room { result ≢ Err (Refusal Room) }
 {
-    let mut disk = Replay::<F>::new(alloc, file_len, places, pieces);
-    match log_store::make(&mut disk) {
-        Ok(()) => with_sync(alloc, disk.into_steps()),
+    let mut own = writable_replay::<F>(alloc, file_len, places, pieces)?;
+    let layout = own.layout;
+    match log_store::make(&mut own) {
+        Ok(()) => {
+            let steps = steps_laid::<F>(own, layout)?;
+            with_sync(alloc, steps)
+        }
         Err(stop) => Err(NotDone::of_stop(stop)),
     }
 }
@@ -192,7 +212,7 @@ pub fn path_of<F: Held>(
     requires pieces { pieces.now ≡ F.pieces }
     requires bytes { file_len ≡ F.size }
     ensures path { IsReadOf F.places F.pieces F.file → F.size ≡ length F.file
-        → (leaves : List Digest) → IsLogFile leaves F.file
+        → (leaves : List Digest) → HasLog leaves F.file
         → let path = inclusion_path node_of (sha256 []) index (take size leaves) in
         IfOk result (λ proof. all_of path ≡ Ok proof.path.items) }
 
@@ -200,12 +220,13 @@ pub fn path_of<F: Held>(
     ensures accepted { IfOk result (λ proof. let verdict = inclusion_verdict node_of proof.root in
         verdict proof.size index proof.digest proof.path.items ≡ Ok true) }
     ensures refused { IsReadOf F.places F.pieces F.file → F.size ≡ length F.file
-        → IfErr result (IsReason F.file (index_outcome F.file (Some size) index)) }
+        → let file = log_in F.file in
+        IfErr result (IsReason file (index_outcome file (Some size) index)) }
     ensures done { result ≢ Err More }
     ensures room { result ≢ Err (Refusal Room) }
 {
-    let disk = Replay::<F>::new(alloc, file_len, places, pieces);
-    match log_store::prove(alloc, &disk, index, Some(size)) {
+    let own = laid_replay::<F>(alloc, file_len, places, pieces)?;
+    match log_store::prove(alloc, &own, index, Some(size)) {
         Ok(proof) => Ok(proof),
         Err(stop) => Err(NotDone::of_stop(stop)),
     }
@@ -224,7 +245,7 @@ pub fn proof_of<F: Held>(
     requires pieces { pieces.now ≡ F.pieces }
     requires bytes { file_len ≡ F.size }
     ensures path { IsReadOf F.places F.pieces F.file → F.size ≡ length F.file
-        → (leaves : List Digest) → IsLogFile leaves F.file
+        → (leaves : List Digest) → HasLog leaves F.file
         → let path = consistency_path node_of (sha256 []) old_size (take size leaves) in
         IfOk result (λ proof. all_of path ≡ Ok proof.path.items) }
 
@@ -232,12 +253,13 @@ pub fn proof_of<F: Held>(
     ensures accepted { IfOk result (λ proof. let verdict = consistency_verdict node_of old_size in
         verdict proof.old_root proof.size proof.root proof.path.items ≡ Ok true) }
     ensures refused { IsReadOf F.places F.pieces F.file → F.size ≡ length F.file
-        → IfErr result (IsReason F.file (older_outcome F.file (Some size) old_size)) }
+        → let file = log_in F.file in
+        IfErr result (IsReason file (older_outcome file (Some size) old_size)) }
     ensures done { result ≢ Err More }
     ensures room { result ≢ Err (Refusal Room) }
 {
-    let disk = Replay::<F>::new(alloc, file_len, places, pieces);
-    match log_store::consistency(alloc, &disk, old_size, Some(size)) {
+    let own = laid_replay::<F>(alloc, file_len, places, pieces)?;
+    match log_store::consistency(alloc, &own, old_size, Some(size)) {
         Ok(proof) => Ok(proof),
         Err(stop) => Err(NotDone::of_stop(stop)),
     }

@@ -7,9 +7,10 @@ ghost use Rattle.paxidore_c.specs.declared.file_calls.not_done.NotDone.TheVarian
 ghost use Rattle.paxidore_c.specs.declared.refused.Refused.TheVariants.{Room};
 
 use crate::file_calls::asking::Asking;
+use crate::file_calls::layouts::layout_on;
 use crate::file_calls::not_done::NotDone;
 use crate::refused::Refused;
-use log_store::{Disk, Stop};
+use log_store::{Disk, Layout, SectorDisk, Stop};
 use std::alloc::Global;
 
 /// What a call on a log's file asks for.
@@ -49,6 +50,28 @@ impl Asked {
             }
         }
     }
+}
+
+// The pieces that are to be read first: those that tell the layout of the file, or else those that the call reads.
+fn missing_for(
+    alloc: Global,
+    asked: Asked,
+    file_len: usize,
+    read: &[[usize; 2]],
+    pieces: &[u8],
+) -> Vec<[usize; 2]> {
+    let sectors = Asking::new(alloc, file_len, read, pieces);
+    let layout = layout_on(&sectors).unwrap_or(Layout::Dense);
+    let first = sectors.missing.into_inner();
+    if !first.is_empty() {
+        return first;
+    }
+    let mut own = SectorDisk {
+        disk: Asking::new(alloc, file_len, read, pieces),
+        layout,
+    };
+    asked.try_on(alloc, &mut own);
+    own.disk.missing.into_inner()
 }
 
 // Whether the pieces have as many bytes as their places say.
@@ -114,9 +137,7 @@ pub fn ask(
     if !are_pieces(&places[..read], pieces) {
         return Err(NotDone::Refusal(Refused::Lengths));
     }
-    let mut disk = Asking::new(alloc, file_len, &places[..read], pieces);
-    asked.try_on(alloc, &mut disk);
-    let missing = disk.missing.into_inner();
+    let missing = missing_for(alloc, asked, file_len, &places[..read], pieces);
     if missing.is_empty() {
         return Ok(());
     }

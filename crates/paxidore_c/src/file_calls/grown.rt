@@ -2,8 +2,7 @@
 
 ghost use Rattle.std.specs.Prelude.{◌≡◌, ◌≢◌, ◌<◌, List, length, Err, IfErr, OnOk};
 ghost use Rattle.ark_paths.specs.Pair.{Digest};
-ghost use Rattle.log_file.specs.Append.{appended_size};
-ghost use Rattle.log_file.specs.LogFile.{IsLogFile};
+ghost use Rattle.paxidore_c.specs.Layouts.{grown_size, log_in, HasLog, IsFirstLost};
 ghost use Rattle.paxidore_c.specs.LogFiles.{IsReason};
 ghost use Rattle.paxidore_c.specs.Plan.{Grows, IsReadOf, LeavesSteps};
 ghost use Rattle.paxidore_c.specs.declared.file_calls.not_done.NotDone.TheVariants.{More, Refusal};
@@ -35,11 +34,15 @@ pub fn hand_over_growth<F: Held>(
 
     // Where the pieces are those of the file of a log, the steps append these digests to it.
     ensures grows { IsReadOf F.places F.pieces F.file → F.size ≡ length F.file
-        → (leaves : List Digest) → IsLogFile leaves F.file → OnOk result
+        → (leaves : List Digest) → HasLog leaves F.file → OnOk result
         (Grows leaves digests.now F.file bytes.old bytes.new bytes_len.new steps.old steps.new
         steps_len.new size.new) }
+
+    // Nothing is appended to a file whose first sector is lost.
+    ensures lost { IsReadOf F.places F.pieces F.file → F.size ≡ length F.file
+        → IsFirstLost F.file → OnOk result ⊥ }
     ensures refused { IsReadOf F.places F.pieces F.file → F.size ≡ length F.file
-        → IfErr result (IsReason F.file (appended_size F.file (length digests.now))) }
+        → IfErr result (IsReason (log_in F.file) (grown_size F.file (length digests.now))) }
     ensures left { IfErr result (λ why. LeavesSteps (why ≡ Refusal Room) bytes.old bytes.new
         bytes_len.old bytes_len.new steps.old steps.new steps_len.old steps_len.new) }
     ensures kept { IfErr result (λ _. size.new ≡ size.old) }

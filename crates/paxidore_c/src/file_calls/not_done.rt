@@ -8,7 +8,7 @@ ghost use Rattle.paxidore_c.specs.declared.refused.Refused.TheVariants.{Memory, 
 use crate::file_calls::replay::Halt;
 use crate::refused::Refused;
 use log_file::fault::Fault;
-use log_store::Stop;
+use log_store::{SectorRefusal, Stop};
 use std::alloc::AllocFailed;
 
 /// Why a call on a log's file is not done.
@@ -44,16 +44,22 @@ impl NotDone {
     }
 
     /// Returns why a call is not done that stopped.
-    pub fn of_stop(stop: Stop<Halt>) -> NotDone
+    pub fn of_stop(stop: Stop<SectorRefusal<Halt>>) -> NotDone
         ensures is { result ≡ not_done_at stop }
         ensures done { result ≢ More }
         ensures room { result ≢ Refusal Room }
     {
         match stop {
             Stop::Fault(fault) => NotDone::from(fault),
-            Stop::Disk(Halt::Memory) => NotDone::Refusal(Refused::Memory),
+            Stop::Disk(SectorRefusal::Disk(Halt::Memory)) => NotDone::Refusal(Refused::Memory),
             // what is asked for is read before, and lies in the file
-            Stop::Disk(Halt::Missing | Halt::Ended) => NotDone::Refusal(Refused::Other),
+            Stop::Disk(SectorRefusal::Disk(Halt::Missing | Halt::Ended)) => {
+                NotDone::Refusal(Refused::Other)
+            }
+            // what is written is of one part, and a file with sectors has both
+            Stop::Disk(SectorRefusal::Place | SectorRefusal::Short) => {
+                NotDone::Refusal(Refused::Other)
+            }
         }
     }
 }

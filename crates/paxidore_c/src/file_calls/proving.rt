@@ -2,10 +2,10 @@
 
 ghost use Rattle.std.specs.Prelude.{◌≡◌, ◌≢◌, ◌<◌, List, ℕ, length, pos, negsuc, IfErr, IfOk, OnOk, Err, Some};
 ghost use Rattle.ark_paths.specs.Pair.{Digest};
-ghost use Rattle.log_file.specs.LogFile.{IsLogFile};
 ghost use Rattle.log_store.specs.Refused.{index_outcome, older_outcome};
 ghost use Rattle.paxidore_c.specs.Answer.{refusal_code};
 ghost use Rattle.paxidore_c.specs.KeptLog.{consistency_bytes, inclusion_bytes};
+ghost use Rattle.paxidore_c.specs.Layouts.{log_in, HasLog};
 ghost use Rattle.paxidore_c.specs.LogFiles.{AsksFirst, IsReason, StandsInFront, TellsWhy};
 ghost use Rattle.paxidore_c.specs.Plan.{HasRead};
 ghost use Rattle.paxidore_c.specs.declared.file_calls.not_done.NotDone.TheVariants.{More, Refusal};
@@ -34,15 +34,16 @@ fn inclusion_in(
     ensures first { AsksFirst (result ≡ Err More) file_len places_len.old places_len.new
         places.old places.new }
     ensures path { HasRead file file_len places_len.old places.old pieces.now
-        → (leaves : List Digest) → IsLogFile leaves file
+        → (leaves : List Digest) → HasLog leaves file
         → OnOk result (StandsInFront (inclusion_bytes size index leaves) path.old path.new
         path_len.new) }
     ensures room_needed { HasRead file file_len places_len.old places.old pieces.now
-        → (leaves : List Digest) → IsLogFile leaves file → places_len.old < length places.old
+        → (leaves : List Digest) → HasLog leaves file → places_len.old < length places.old
         → result ≡ Err (Refusal Room)
         → IfOk (inclusion_bytes size index leaves) (λ bytes. path_len.new ≡ length bytes) }
     ensures refused { HasRead file file_len places_len.old places.old pieces.now
-        → IfErr result (IsReason file (index_outcome file (Some size) index)) }
+        → let own = log_in file in
+        IfErr result (IsReason own (index_outcome own (Some size) index)) }
     ensures kept { IfErr result (λ _. path.new ≡ path.old) }
     ensures uncounted { result ≢ Err (Refusal Room)
         → IfErr result (λ _. path_len.new ≡ path_len.old) }
@@ -69,19 +70,20 @@ pub extern "C" fn paxidore_log_file_inclusion(
     ensures first { AsksFirst (result ≡ negsuc 9) pieces.old.file_len pieces.old.places_len
         pieces.new.places_len pieces.old.places.now pieces.new.places.now }
     ensures path { HasRead file pieces.old.file_len pieces.old.places_len pieces.old.places.now
-        pieces.old.bytes.now → (leaves : List Digest) → IsLogFile leaves file → result ≡ pos 0
+        pieces.old.bytes.now → (leaves : List Digest) → HasLog leaves file → result ≡ pos 0
         → StandsInFront (inclusion_bytes size index leaves) path.old path.new
         path_len.new }
 
     // Where there is room for places, the buffer lacks it.
     ensures room_needed { HasRead file pieces.old.file_len pieces.old.places_len
         pieces.old.places.now
-        pieces.old.bytes.now → (leaves : List Digest) → IsLogFile leaves file
+        pieces.old.bytes.now → (leaves : List Digest) → HasLog leaves file
         → pieces.old.places_len < length pieces.old.places.now → result ≡ refusal_code Room
         → IfOk (inclusion_bytes size index leaves) (λ bytes. path_len.new ≡ length bytes) }
     ensures refused { HasRead file pieces.old.file_len pieces.old.places_len pieces.old.places.now
         pieces.old.bytes.now
-        → TellsWhy (IsReason file (index_outcome file (Some size) index)) result }
+        → let own = log_in file in
+        TellsWhy (IsReason own (index_outcome own (Some size) index)) result }
     ensures kept { result ≢ pos 0 → path.new ≡ path.old }
     ensures uncounted { result ≢ pos 0 → result ≢ refusal_code Room
         → path_len.new ≡ path_len.old }
@@ -117,15 +119,16 @@ fn consistency_in(
     ensures first { AsksFirst (result ≡ Err More) file_len places_len.old places_len.new
         places.old places.new }
     ensures proof { HasRead file file_len places_len.old places.old pieces.now
-        → (leaves : List Digest) → IsLogFile leaves file
+        → (leaves : List Digest) → HasLog leaves file
         → OnOk result (StandsInFront (consistency_bytes old_size size leaves) proof.old proof.new
         proof_len.new) }
     ensures room_needed { HasRead file file_len places_len.old places.old pieces.now
-        → (leaves : List Digest) → IsLogFile leaves file → places_len.old < length places.old
+        → (leaves : List Digest) → HasLog leaves file → places_len.old < length places.old
         → result ≡ Err (Refusal Room)
         → IfOk (consistency_bytes old_size size leaves) (λ bytes. proof_len.new ≡ length bytes) }
     ensures refused { HasRead file file_len places_len.old places.old pieces.now
-        → IfErr result (IsReason file (older_outcome file (Some size) old_size)) }
+        → let own = log_in file in
+        IfErr result (IsReason own (older_outcome own (Some size) old_size)) }
     ensures kept { IfErr result (λ _. proof.new ≡ proof.old) }
     ensures uncounted { result ≢ Err (Refusal Room)
         → IfErr result (λ _. proof_len.new ≡ proof_len.old) }
@@ -153,19 +156,20 @@ pub extern "C" fn paxidore_log_file_consistency(
     ensures first { AsksFirst (result ≡ negsuc 9) pieces.old.file_len pieces.old.places_len
         pieces.new.places_len pieces.old.places.now pieces.new.places.now }
     ensures proof { HasRead file pieces.old.file_len pieces.old.places_len pieces.old.places.now
-        pieces.old.bytes.now → (leaves : List Digest) → IsLogFile leaves file → result ≡ pos 0
+        pieces.old.bytes.now → (leaves : List Digest) → HasLog leaves file → result ≡ pos 0
         → StandsInFront (consistency_bytes old_size size leaves) proof.old proof.new
         proof_len.new }
 
     // Where there is room for places, the buffer lacks it.
     ensures room_needed { HasRead file pieces.old.file_len pieces.old.places_len
         pieces.old.places.now
-        pieces.old.bytes.now → (leaves : List Digest) → IsLogFile leaves file
+        pieces.old.bytes.now → (leaves : List Digest) → HasLog leaves file
         → pieces.old.places_len < length pieces.old.places.now → result ≡ refusal_code Room
         → IfOk (consistency_bytes old_size size leaves) (λ bytes. proof_len.new ≡ length bytes) }
     ensures refused { HasRead file pieces.old.file_len pieces.old.places_len pieces.old.places.now
         pieces.old.bytes.now
-        → TellsWhy (IsReason file (older_outcome file (Some size) old_size)) result }
+        → let own = log_in file in
+        TellsWhy (IsReason own (older_outcome own (Some size) old_size)) result }
     ensures kept { result ≢ pos 0 → proof.new ≡ proof.old }
     ensures uncounted { result ≢ pos 0 → result ≢ refusal_code Room
         → proof_len.new ≡ proof_len.old }

@@ -1,7 +1,7 @@
 //! A disk that answers from what a caller has read of a file, and notes what the caller is to write there.
 
 ghost use Rattle.std.specs.Prelude.{◌≡◌, ◌+◌, ◌≤◌, ◌++◌, ◌∷◌, List, [], ℕ, length, take, drop, true, if◌then◌else◌, IfOk, OnOk};
-ghost use Rattle.paxidore_c.specs.Plan.{IsReadOf};
+ghost use Rattle.paxidore_c.specs.Plan.{IsReadOf, carried};
 ghost use Rattle.log_file.specs.LogFile.{written};
 
 use log_store::Disk;
@@ -181,6 +181,24 @@ fn count(steps: &[Step]) -> usize
     steps.len()
 }
 
+// How long a file of so many bytes is, once steps are carried out that leave no gap.
+fn length_behind(file_len: usize, steps: &[Step]) -> Result<usize, Halt>
+    ensures { (file : List ℕ) → file_len ≡ length file
+        → IfOk result (λ count. count ≡ length (carried steps.now file)) }
+{
+    let mut count = file_len;
+    for step in steps {
+        if step.at > count {
+            return Err(Halt::Ended);
+        }
+        match step.at.checked_add(step.bytes.len()) {
+            Some(end) => count = count.max(end),
+            None => return Err(Halt::Ended),
+        }
+    }
+    Ok(count)
+}
+
 // Copies the bytes of a range from a step that has it.
 fn read_step(step: &Step, at: usize, into: &mut [u8]) -> Result<(), Halt>
     requires { step.now.at ≤ at }
@@ -233,11 +251,7 @@ impl<'a, F: Held> Disk for Replay<'a, F> {
     ghost only_now = { λ _ _ since. since };
 
     fn length(&self) -> Result<usize, Halt> {
-        if self.steps.is_empty() {
-            Ok(self.file_len)
-        } else {
-            Err(Halt::Ended)
-        }
+        length_behind(self.file_len, &self.steps)
     }
 
     // Of what is to be written only one step is read, which stands behind what was read of the file.

@@ -1,7 +1,7 @@
 use Rattle.std.proofs.Common.{w32}
 use Rattle.std.proofs.Math.Logic.{⊎_map}
 use Rattle.std.proofs.lemmas.Int.{to_z-of_z}
-use Rattle.paxidore_c.proofs.LogCalls.{tells, where-done}
+use Rattle.paxidore_c.proofs.LogCalls.{asks-by, left-by, tells, where-done, where-head}
 use Rattle.paxidore_c.proofs.file_calls.paxidore_log_file_make.Goals as goal
 
 pub returns-clause-same : goal.returns-clause-same
@@ -20,3 +20,26 @@ pub returns-clause-refused : goal.returns-clause-refused
 returns-clause-refused g c =
     let fits = to_z-of_z w32 c.code_of.result (record { sfits = c.code_of.type_inv }) in
     rw fits (tells c.made_in.result _ _ c.code_of.ensures.code c.made_in.ensures.refused)
+
+pub returns-clause-lost : goal.returns-clause-lost
+returns-clause-lost g c =
+    let fits = to_z-of_z w32 c.code_of.result (record { sfits = c.code_of.type_inv }) in
+    rw fits (λ read lost zero. where-done c.made_in.result _ (c.code_of.ensures.done zero)
+    (c.made_in.ensures.lost read lost))
+
+pub returns-clause-head : goal.returns-clause-head
+returns-clause-head g c =
+    let fits = to_z-of_z w32 c.code_of.result (record { sfits = c.code_of.type_inv }) in
+    rw fits (λ read damaged. where-head c.made_in.result (c.code_of.ensures.head damaged)
+    (c.made_in.ensures.head read))
+
+pub returns-clause-first : goal.returns-clause-first
+returns-clause-first g c =
+    let fits = to_z-of_z w32 c.code_of.result (record { sfits = c.code_of.type_inv }) in
+    rw fits (asks-by _ _ _ _ _ _ _ c.code_of.ensures.more c.code_of.ensures.asked c.made_in.ensures.first)
+
+pub returns-clause-left : goal.returns-clause-left
+returns-clause-left g c =
+    let fits = to_z-of_z w32 c.code_of.result (record { sfits = c.code_of.type_inv }) in
+    rw fits (left-by c.made_in.result c.code_of.result _ _ _ _ _ _ _ _ c.code_of.ensures.code
+    c.made_in.ensures.left)

@@ -1,27 +1,50 @@
-use Rattle.std.proofs.Common.{◌∙◌, List, inl, ap, subst}
+use Rattle.std.proofs.Common.{[], sym, subst}
 use Rattle.std.proofs.Math.Logic.{⊎_map}
-use Rattle.std.proofs.lemmas.Result.{IfErr-weaker, IfOk-weaker}
-use Rattle.log_store.specs.Store.{new_head, IsPartOf}
-use Rattle.paxidore_c.specs.Plan.{carried}
-use Rattle.paxidore_c.specs.declared.file_calls.replay.Step.{Step}
+use Rattle.std.proofs.lemmas.Result.{IfOk-weaker}
+use Rattle.log_file.specs.LogFile.{IsLogFile}
+use Rattle.log_store.specs.Store.{new_head, IsPartOf, IsSettled}
+use Rattle.paxidore_c.specs.Layouts.{log_in, IsSameLog}
+use Rattle.paxidore_c.proofs.Layouts.{begun-settled, read-of, steps-same}
 use Rattle.paxidore_c.proofs.file_calls.answers.made_of.Goals as goal
 
-pub returns-in-Ok-clause-kept : goal.returns-in-Ok-clause-kept
-returns-in-Ok-clause-kept g c = λ read size leaves log.
-    let carry = λ (steps : List Step). carried steps g.F.Held.file in
+pub returns-in_ok-steps-in-Ok-clause-kept : goal.returns-in_ok-steps-in-Ok-clause-kept
+returns-in_ok-steps-in-Ok-clause-kept g c = λ read size leaves log.
+    let file = g.F.Held.file in
+    let own = c.in_ok-own.own in
+    let new = c.make.new.disk in
+    let is = c.in_ok-own.ensures.layout read size in
+    let none = c.in_ok-own.ensures.nothing in
+    let seen = read-of own.layout own.disk.steps file is none in
+    let same = steps-same own.layout new.layout own.disk.steps new.disk.steps c.in_ok-steps-in-Ok.steps.items file is
+    c.in_ok-own.ensures.there c.in_ok-steps-in-Ok.ensures.layout none c.in_ok-steps-in-Ok.ensures.steps
+    (c.in-Ok.ensures.kept (read, size) leaves (subst (IsLogFile leaves) (sym seen) log)) in
+    IfOk-weaker c.with_sync.result _ _ (λ steps carries. subst (IsSameLog file) (sym (carries file)) same)
+    c.with_sync.ensures.same
+
+pub returns-in_ok-steps-in-Ok-clause-made : goal.returns-in_ok-steps-in-Ok-clause-made
+returns-in_ok-steps-in-Ok-clause-made g c = λ read size empty.
+    let file = g.F.Held.file in
+    let own = c.in_ok-own.own in
+    let new = c.make.new.disk in
+    let is = c.in_ok-own.ensures.layout read size in
+    let settled = begun-settled own.layout new.layout own.disk.steps new.disk.steps c.in_ok-steps-in-Ok.steps.items file
+    is c.in_ok-own.ensures.there c.in_ok-steps-in-Ok.ensures.layout c.in_ok-own.ensures.nothing
+    c.in_ok-steps-in-Ok.ensures.steps empty
+    (c.in-Ok.ensures.made (read, size)) in
     IfOk-weaker c.with_sync.result _ _
-    (λ steps same. same g.F.Held.file ∙ ap carry c.into_steps.ensures
-    ∙ c.in-Ok.ensures.kept (read, size) leaves (rw (c.new-disk.ensures.nothing) log)
-    ∙ ap carry c.new-disk.ensures.nothing) c.with_sync.ensures.same
+    (λ steps carries. subst (λ f. IsSettled [] (log_in f)) (sym (carries file)) settled) c.with_sync.ensures.same
 
-pub returns-in-Ok-clause-others : goal.returns-in-Ok-clause-others
-returns-in-Ok-clause-others g c = λ read size.
-    let carry = λ (steps : List Step). carried steps g.F.Held.file in
-    ⊎_map (subst (λ (steps : List Step). IsPartOf new_head (carried steps g.F.Held.file)) c.new-disk.ensures.nothing)
+pub returns-in_ok-steps-in-Ok-clause-others : goal.returns-in_ok-steps-in-Ok-clause-others
+returns-in_ok-steps-in-Ok-clause-others g c = λ read size.
+    let file = g.F.Held.file in
+    let own = c.in_ok-own.own in
+    let new = c.make.new.disk in
+    let is = c.in_ok-own.ensures.layout read size in
+    let none = c.in_ok-own.ensures.nothing in
+    let seen = read-of own.layout own.disk.steps file is none in
+    ⊎_map (subst (IsPartOf new_head) seen)
     (λ left. IfOk-weaker c.with_sync.result _ _
-    (λ steps same. same g.F.Held.file ∙ ap carry c.into_steps.ensures ∙ left ∙ ap carry c.new-disk.ensures.nothing)
+    (λ steps carries. subst (IsSameLog file) (sym (carries file))
+    (steps-same own.layout new.layout own.disk.steps new.disk.steps c.in_ok-steps-in-Ok.steps.items file is
+    c.in_ok-own.ensures.there c.in_ok-steps-in-Ok.ensures.layout none c.in_ok-steps-in-Ok.ensures.steps left))
     c.with_sync.ensures.same) (c.in-Ok.ensures.others (read, size))
-
-pub returns-in-Ok-clause-refused : goal.returns-in-Ok-clause-refused
-returns-in-Ok-clause-refused g c =
-    IfErr-weaker c.with_sync.result _ _ (λ why memory. inl memory) c.with_sync.ensures.refused
