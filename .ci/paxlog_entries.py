@@ -230,7 +230,7 @@ def goes_in_order(room):
             durable |= {name for name in known if os.path.dirname(site + "/" + name) == place[0].rstrip("/")}
         elif call.startswith("pwrite64") and place and place[0] == log and re.search(r", (\d+)\)", call):
             at = int(re.search(r", (\d+)\)\s*=", call).group(1))
-            if at >= 96:
+            if at >= 8192:
                 check("kept before it is appended", set(bundles([b""] * (size + 200))) <= durable)
     check("three checkpoints", size == 600)
     os.remove(seen), os.remove(log), shutil.rmtree(site)
@@ -268,7 +268,9 @@ def keeps_at_once(room, verifier):
         ran.append(subprocess.Popen([PROGRAM, "append", log, "--keep", site, "--wait", "60", name], stdout=subprocess.PIPE, stderr=subprocess.PIPE))
         ran.append(subprocess.Popen([PROGRAM, "tiles", log, site, "--key", key, "--wait", "60"], stdout=subprocess.PIPE, stderr=subprocess.PIPE))
     said = [process.communicate() + (process.returncode,) for process in ran]
-    check("all are done", all(status == 0 for _, _, status in said))
+    check("all are appended", all(status == 0 for _, _, status in said[::2]))
+    # a signature is put off for ten seconds at most while others append
+    check("all are published, or told that others append", all(status in (0, 4) for _, _, status in said[1::2]))
     order = sorted((int(out), number) for number, (out, _, _) in enumerate(said[::2], 1))
     grown = [b"0\n"] + [b"%d\n" % number for _, number in order]
     check("all is kept", are_kept(site, grown) and ask("tiles", log, site, "--key", key)[0] == 0)

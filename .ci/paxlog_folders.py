@@ -43,7 +43,7 @@ def flipped(name, at):
 def stored_at(level, place):
     """Where a log's file has a digest."""
     last = (place + 1 << level) - 1
-    return 96 + 32 * (2 * last - bin(last).count("1") + level)
+    return 8192 + 32 * (2 * last - bin(last).count("1") + level)
 
 
 def signs_sound_tiles(room, verifier):
@@ -254,8 +254,8 @@ def works_while_others_append(room, verifier):
             time.sleep(0.1)
             check("and nothing is signed", ran.poll() is None and (read(site + "/checkpoint") if note else None) == note)
             whole = read(longer)
-            file.seek(96), file.write(whole[96:]), file.flush()
-            file.seek(0), file.write(whole[:96])
+            file.seek(8192), file.write(whole[8192:]), file.flush()
+            file.seek(0), file.write(whole[:8192])
         check("then what was appended is signed", (*ran.communicate(), ran.returncode) == (said_of(more).encode(), b"", 0))
         check("with all its tiles", ask("audit", site, verifier) == audited(more, 0))
     if shutil.which("strace"):

@@ -8,6 +8,7 @@ import sys
 TOP = os.path.dirname(os.path.dirname(os.path.abspath(__file__)))
 PROGRAM = os.path.abspath(sys.argv[1] if len(sys.argv) > 1 else TOP + "/crates/paxlog/out/paxlog")
 TITLE = b"paxidore log, digests of SHA-256"
+SECTOR_TITLE = b"paxidore log of SHA-256, sectors"
 SIZE = 21
 ROUNDS = int(os.environ.get("ROUNDS", "20"))
 KILLS = int(os.environ.get("KILLS", "60"))
@@ -99,6 +100,26 @@ def file_of(digests):
 def read(name):
     with open(name, "rb") as file:
         return file.read()
+
+
+def apart(data):
+    """The file with sectors of a log's file."""
+    first, second = SECTOR_TITLE + data[32:64], SECTOR_TITLE + data[64:96]
+    return first.ljust(4096, b"\0") + second.ljust(4096, b"\0") + data[96:]
+
+
+def together(data):
+    """The log's file of one with sectors."""
+    return TITLE + data[32:64] + data[4128:4160] + data[8192:]
+
+
+def read_log(name):
+    """The log's file, whether its slots lie in one sector or in two. Behind a slot its sector has zeros."""
+    data = read(name)
+    if not data.startswith(SECTOR_TITLE):
+        return data
+    assert apart(together(data)) == data
+    return together(data)
 
 
 def write(name, data):

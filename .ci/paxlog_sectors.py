@@ -3,19 +3,38 @@ import os
 import shutil
 import subprocess
 
-from paxlog_model import PROGRAM, TITLE, ask, check, file_of, path, read, root, write
+from paxlog_model import DRAWS, PROGRAM, apart, ask, check, file_of, path, read, read_log, root, together, write
 
-SECTOR_TITLE = b"paxidore log of SHA-256, sectors"
-
-
-def apart(data):
-    """The file with sectors of a log's file."""
-    first, second = SECTOR_TITLE + data[32:64], SECTOR_TITLE + data[64:96]
-    return first.ljust(4096, b"\0") + second.ljust(4096, b"\0") + data[96:]
-
-
-def together(data):
-    return TITLE + data[32:64] + data[4128:4160] + data[8192:]
+def lays_out(room, names, digests):
+    """A new log has its slots in two sectors; a part of them is completed, and no other file is."""
+    log, head, grown = room + "/laid-out", apart(file_of([])), apart(file_of(digests[:1]))
+    check("a new log", ask("append", log, names[0]) == (0, "1\n", "") and read(log) == grown)
+    parts = [head[:size] for size in (0, 1, 12, 31, 32, 63, 64, 96, 97, 4095, 4096, 4128, 4160, 8191, 8192)]
+    parts += [bytes(size) for size in (1, 96, 97, 4096, 8192)] + [bytes(4096) + head[4096:], head[:4096] + bytes(4096)]
+    parts += [bytes(byte & DRAWS.choice((0, 255)) for byte in head) for _turn in range(4)]
+    for part in parts:
+        write(log, part)
+        check("%d bytes of two sectors: they are completed" % len(part), ask("append", log, names[0]) == (0, "1\n", "") and read(log) == grown)
+    for other in (bytes(8193), bytes(8191) + b"x", b"x" + bytes(95), head[:4000] + b"x", head[:64] + b"\n"):
+        write(log, other)
+        said = ask("append", log, names[0])
+        check("%d other bytes" % len(other), read(log)[96:] == other[96:] and (said[0], read(log)[:96]) in ((3, other[:96]), (0, other[:96])))
+    for size in (0, 1, 5):
+        write(log, file_of(digests[:size]))
+        check("an older log keeps its layout", ask("append", log, names[size])[0] == 0 and read(log) == file_of(digests[: size + 1]))
+    os.remove(log)
+    if not shutil.which("strace"):
+        return
+    for call, times in (("pwrite64", 5), ("fsync", 5)):
+        for number in range(1, times + 1):
+            for how in ("signal=KILL", "error=EIO", "error=ENOSPC"):
+                trace = ["strace", "-o", "/dev/null", "-e", "trace=" + call, "-e", "inject=%s:%s:when=%d" % (call, how, number)]
+                subprocess.run([*trace, PROGRAM, "append", log, names[0]], stdout=subprocess.PIPE, stderr=subprocess.PIPE)
+                left = read(log)[:8192]
+                check("%s %d of a new log, %s" % (call, number, how), left == head[: len(left)] or ask("root", log)[0] == 0)
+                said = ask("append", log, names[1])
+                check("%s %d of a new log, %s: it goes on" % (call, number, how), said in ((0, "1\n", ""), (0, "2\n", "")) and read_log(log) == file_of(digests[:2] if said[1] == "2\n" else digests[1:2]))
+                os.remove(log)
 
 
 def lies_apart(room, names, digests):
@@ -34,7 +53,7 @@ def lies_apart(room, names, digests):
                 check("lost sector %d: a proof" % number, end[0] == 0 and path(0, digests[:size]).hex() in end[1].replace("\n", ""))
             os.path.exists(log + "-new") and os.remove(log + "-new")
             check("lost sector %d: it is recovered" % number, ask("recover", log, log + "-new")[0] == 0)
-            check("lost sector %d: the new file" % number, read(log + "-new") == file_of(digests[:size]))
+            check("lost sector %d: the new file" % number, read(log + "-new") == apart(file_of(digests[:size])))
         write(log, whole)
         check("slots in two sectors: an append", ask("append", log, names[size]) == (0, "%d\n" % (size + 1), ""))
         check("slots in two sectors: the file", together(read(log)) == file_of(digests[: size + 1]))
@@ -43,7 +62,10 @@ def lies_apart(room, names, digests):
         check("zeros for the second slot: an append", ask("append", log, names[size]) == (0, "%d\n" % (size + 1), ""))
         check("zeros for the second slot: both are there", together(read(log)) == file_of(digests[: size + 1]))
         write(log, lost[0])
-        check("no first sector: nothing is written", ask("append", log, names[size])[0] == 6 and read(log) == lost[0])
+        if size:
+            check("no first sector: nothing is written", ask("append", log, names[size])[0] == 6 and read(log) == lost[0])
+        else:
+            check("no first sector, and no entry: it is made", ask("append", log, names[0]) == (0, "1\n", "") and read(log) == apart(file_of(digests[:1])))
     for cut in (0, 32, 64, 4096, 4160, 8191):
         write(log, apart(file_of([]))[:cut])
         check("a file with sectors that is cut at %d" % cut, ask("root", log)[0] == 3)

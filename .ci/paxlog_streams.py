@@ -7,7 +7,7 @@ import signal
 import subprocess
 import time
 
-from paxlog_model import DRAWS, KILLS, PROGRAM, ask, check, file_of, read, root, sha, write
+from paxlog_model import DRAWS, KILLS, PROGRAM, ask, check, file_of, read, read_log, root, sha, write
 
 NAME = "stream.example/log"
 
@@ -64,7 +64,7 @@ def takes_turns(room, key):
         lines = [b"%d of turn %d" % (number, turn) for number in range(turn + 1)]
         stream.give(b"".join(line + b"\n" for line in lines))
         grown += [sha(b"\0" + line) for line in lines]
-        check("what came is appended at once", stream.said() == len(grown) and read(log) == file_of(grown))
+        check("what came is appended at once", stream.said() == len(grown) and read_log(log) == file_of(grown))
         check("another appends meanwhile", ask("append", log, "/dev/null") == (0, "%d\n" % (len(grown) + 1), ""))
         grown.append(sha(b"\0"))
         status, note, _ = ask("checkpoint", log, "--key", key)
@@ -74,19 +74,19 @@ def takes_turns(room, key):
         fcntl.flock(file, fcntl.LOCK_EX)
         stream.give(b"waits\n")
         time.sleep(0.1)
-        check("it waits for others", read(log) == file_of(grown))
+        check("it waits for others", read_log(log) == file_of(grown))
     grown.append(sha(b"\0waits"))
-    check("and goes on", stream.said() == len(grown) and read(log) == file_of(grown))
+    check("and goes on", stream.said() == len(grown) and read_log(log) == file_of(grown))
     # a line that comes in parts, more lines than a batch has, and a last one without its end
     stream.give(b"in ")
     time.sleep(0.05)
-    check("a part of a line is no line", read(log) == file_of(grown))
+    check("a part of a line is no line", read_log(log) == file_of(grown))
     stream.give(b"parts\n1\n2\n3\nthe last")
     more = [b"in parts", b"1", b"2", b"3", b"the last"]
     check("no more than a batch has", stream.said() == len(grown) + 3 and stream.said() == len(grown) + 4)
     check("the end of the input ends a line", stream.end() == (0, [len(grown) + 5], ""))
     grown += [sha(b"\0" + line) for line in more]
-    check("all of them are there", read(log) == file_of(grown))
+    check("all of them are there", read_log(log) == file_of(grown))
     os.remove(log)
     # a pipe that has a name, and a regular file as standard input
     pipe, lines = room + "/pipe", [b"line %d" % number for number in range(7)]
@@ -101,7 +101,7 @@ def takes_turns(room, key):
     with open(pipe + "-not", "rb") as given:
         ran = subprocess.run([PROGRAM, "append-lines", log, "--batch", "4", "-"], stdin=given, stdout=subprocess.PIPE)
     check("a file as standard input", (ran.returncode, ran.stdout) == (0, b"11\n13\n14\n"))
-    check("and its lines", read(log) == file_of([sha(b"\0" + line) for line in lines * 2]))
+    check("and its lines", read_log(log) == file_of([sha(b"\0" + line) for line in lines * 2]))
     os.remove(log), os.remove(pipe), os.remove(pipe + "-not")
 
 
@@ -120,7 +120,7 @@ def syncs_and_says(room):
     check("it ends", stream.end()[0] == 0)
     short = {"flock(": "L", "fsync(": "S", "write(": "W"}
     did = "".join(short[name] for line in read(seen).decode().splitlines() for name in short if line.startswith(name))
-    check("the order of calls: " + did, did == "LSSSL" + 3 * "LSSSLW" + "LSSSSSLW")
+    check("the order of calls: " + did, did == "LSSL" + 3 * "LSSSLW" + "LSSSSSLW")
     os.remove(log), os.remove(seen)
 
 

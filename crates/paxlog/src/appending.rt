@@ -4,7 +4,7 @@ use crate::batches::Batch;
 use crate::entries::{push_lines, push_short, short_entry};
 use crate::keeping::EntryKeeper;
 use crate::progress::OnTerminal;
-use crate::publishing::head_of;
+use crate::publishing::stated_head;
 use crate::reading::file_bytes;
 use crate::saying::say_size;
 use crate::stop::{Stop, StopAt, placed};
@@ -63,7 +63,7 @@ pub fn append_and_keep(
     if let Some(keeping) = keeping {
         if !batch.digests.is_empty() {
             placed(log.place, keeper.size())?;
-            let size = match head_of(keeper.disk()) {
+            let size = match stated_head(keeper.disk()) {
                 Ok(head) => head.size,
                 Err(why) => return Err(why.at(log.place)),
             };

@@ -126,7 +126,7 @@ impl<'a> EntryReader<'a> {
 
     fn push(&mut self, rt: &HostRuntime, entries: &mut Vec<u8>) -> Result<bool, Stop> {
         match &mut self.given {
-            Given::Lines(buffer) => push_line(rt, buffer, entries),
+            Given::Lines(buffer) => push_entry_line(rt, buffer, entries),
             Given::Bundles(buffer) => push_bundled(rt, buffer, entries),
             Given::Files(next, end) => {
                 let place = *next;
@@ -153,7 +153,11 @@ fn opened(rt: &HostRuntime, words: &[Vec<u8>], file: Word) -> Result<Buffer, Sto
 }
 
 // Puts the next line behind other entries. Returns whether there was one.
-fn push_line(rt: &HostRuntime, buffer: &mut Buffer, entries: &mut Vec<u8>) -> Result<bool, Stop> {
+fn push_entry_line(
+    rt: &HostRuntime,
+    buffer: &mut Buffer,
+    entries: &mut Vec<u8>,
+) -> Result<bool, Stop> {
     for _turn in 0..u64::MAX {
         let left = buffer.left();
         if let Some(end) = memchr(b'\n', left) {

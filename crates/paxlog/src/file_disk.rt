@@ -82,6 +82,31 @@ impl FileDisk {
         }
     }
 
+    /// Returns the disk of an open file that has no byte, once it is laid out so that its two slots will lie in different sectors. The
+    /// error is the system's.
+    pub fn blank(file: File) -> io::Result<FileDisk> {
+        let mut disk = OpenFile { file };
+        log_store::lay_blank(&mut disk)?;
+        Ok(FileDisk {
+            sectors: SectorDisk {
+                disk,
+                layout: Layout::Apart,
+            },
+            is_slot_begun: false,
+            is_refused: false,
+        })
+    }
+
+    /// Lays out the file of a new log, whose two slots lie in different sectors, and returns whether it did: any other file stays as it
+    /// is. The error is the system's.
+    pub fn lay_out(&mut self) -> io::Result<bool> {
+        let is_new = log_store::lay_out(&mut self.sectors.disk)?;
+        if is_new {
+            self.sectors.layout = Layout::Apart;
+        }
+        Ok(is_new)
+    }
+
     /// Returns the open file.
     pub fn file(&self) -> &File {
         &self.sectors.disk.file

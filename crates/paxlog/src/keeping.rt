@@ -56,7 +56,7 @@ fn digests_at(
 }
 
 // The bytes of the first entries of a bundle, so many; nothing where it has fewer.
-fn front(bundle: &[u8], count: usize) -> Option<&[u8]> {
+fn first_entries_of(bundle: &[u8], count: usize) -> Option<&[u8]> {
     let mut rest = bundle;
     for _entry in 0..count {
         let Some((_entry, behind)) = first_entry(rest) else {
@@ -78,7 +78,7 @@ fn kept_front(
     for width in [digests.len(), FULL] {
         let path = bundle_path(rt.alloc(), folder, index, width)?;
         if let Some(Some(bundle)) = if_found(bytes_of_at_most(rt, path.as_str(), LONGEST_BUNDLE))? {
-            if let Some(front) = front(&bundle, digests.len()) {
+            if let Some(front) = first_entries_of(&bundle, digests.len()) {
                 if is_bundle(front, digests) {
                     return Ok(Vec::from_slice(rt.alloc(), front)?);
                 }
@@ -160,7 +160,7 @@ fn count_of_bundles(rt: &HostRuntime, folder: &str, size: usize) -> Result<usize
 // The index of the first entry that is kept next, and the bytes of those before it in its bundle. Where no index is named, it is that of
 // the last bundle of a whole tile that the folder has, and the entries before it are left out. Where one is named, those before it have
 // to be kept: the bundle before it is compared with its tile.
-fn start_of(
+fn begins_at(
     rt: &HostRuntime,
     folder: &str,
     size: usize,
@@ -210,7 +210,7 @@ pub fn keep_entries(
 ) -> Result<(), Stop>
     requires { size < 2 ^ 63 }
 {
-    let (start, before) = start_of(rt, folder, size, from, entries)?;
+    let (start, before) = begins_at(rt, folder, size, from, entries)?;
     let mut bundle = before;
     let mut known = start % FULL;
     let mut bundles = Bundles::new(rt, folder)?;

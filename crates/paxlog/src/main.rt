@@ -14,6 +14,7 @@ mod keeping;
 mod patience;
 mod picture;
 mod progress;
+mod published_folder;
 mod publishing;
 mod reading;
 mod saying;

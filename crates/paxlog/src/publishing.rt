@@ -5,25 +5,23 @@ ghost use Rattle.log_file.specs.LogFile.{file_end};
 
 use crate::checkpoints::{note_of, signed_by};
 use crate::file_disk::FileDisk;
-use crate::folders::{TileFault, path_of_tile};
 use crate::followers::{checkpoint_name, log_in_folder, nothing, stated_by_note};
-use crate::reading::{is_there, key_file_bytes};
+use crate::published_folder::PublishedFolder;
+use crate::reading::key_file_bytes;
 use crate::stop::{Stop, StopAt, placed};
-use crate::store::{folder_of, opened_to_sign, root_of_first, signed_when_free, sync_folder_of};
+use crate::store::{opened_to_sign, root_of_first, signed_when_free};
 use crate::words::Name;
-use crate::writing::{locked_folder, sync_above, sync_way, write_whole};
+use crate::writing::locked_folder;
 use log_file::fault::Fault;
 use log_tiles::{
-    FULL, Head, Tile, Unfollowed, continues, new_tiles, read_tile, row_length, width_of,
+    FULL, FileName, Folder, Head, Tile, Unfollowed, Unwritten, continues, new_tiles,
+    put_checkpoint, row_length, width_of, write_each,
 };
 use signed_notes::Signer;
 use std::fs;
 
 /// How many levels of tiles the largest log has.
 const LEVELS: usize = 8;
-
-/// How many full tiles lie in one folder.
-const IN_FOLDER: usize = 1000;
 
 /// How often tiles are written at most while others may append.
 const ROUNDS: usize = 16;
@@ -34,40 +32,13 @@ const FEW: usize = 1024;
 /// For how many seconds a signature is put off at most while another process appends.
 const PATIENCE: usize = 10;
 
-// The name of a tile below a folder.
-fn tile_path(rt: &HostRuntime, folder: &str, tile: Tile) -> Result<String, Stop> {
-    match path_of_tile(rt.alloc(), folder, tile) {
-        Ok(path) => Ok(path),
-        Err(_) => Err(Stop::Fault(Fault::Memory)),
-    }
-}
-
-// Writes a tile of a log of this size to a file, whose folder is there.
-fn write_tile(
-    rt: &HostRuntime,
-    disk: &FileDisk,
-    size: usize,
-    tile: Tile,
-    path: &str,
-) -> Result<(), Stop>
-    requires fits { size < 2 ^ 63 }
-    requires near { file_end size < 2 ^ 64 }
-{
-    let mut digests = [[0; 32]; FULL];
-    match read_tile(disk, size, tile, &mut digests) {
-        Ok(()) => (),
-        Err(stop) => return Err(Stop::from(stop)),
-    }
-    write_whole(rt, path, digests[..tile.width.min(FULL)].as_flattened())
-}
-
 // Returns the tiles of a level that logs of the old size and of this one have, and the folder lacks. The length alone is looked at.
 fn missing_tiles(
     rt: &HostRuntime,
     old_size: usize,
     size: usize,
     level: usize,
-    folder: &str,
+    folder: &mut PublishedFolder<'_>,
 ) -> Result<Vec<Tile>, Stop>
     requires level { level < 8 }
     requires fits { size < 2 ^ 63 }
@@ -82,8 +53,7 @@ fn missing_tiles(
                 index,
                 width,
             };
-            let path = tile_path(rt, folder, tile)?;
-            if !is_there(rt, path.as_str(), width.saturating_mul(32))? {
+            if !folder.find(FileName::OfTile(tile), width.saturating_mul(32))? {
                 tiles.push(tile)?;
             }
         }
@@ -91,62 +61,21 @@ fn missing_tiles(
     Ok(tiles)
 }
 
-// Returns once the names in the folders of the tiles of a level from one on are on the disk, and those of these folders.
-fn sync_level(
-    rt: &HostRuntime,
-    size: usize,
-    level: usize,
-    first: usize,
-    folder: &str,
-) -> Result<(), Stop>
-    requires level { level < 8 }
-    requires fits { size < 2 ^ 63 }
-{
-    let last = row_length(level, size) / FULL;
-    for group in first / IN_FOLDER..last / IN_FOLDER + 1 {
-        let index = group.saturating_mul(IN_FOLDER);
-        if width_of(size, level, index) != 0 {
-            let tile = Tile {
-                level,
-                index,
-                width: FULL,
-            };
-            sync_way(rt, folder, tile_path(rt, folder, tile)?.as_str())?;
-        }
-    }
-    let width = width_of(size, level, last);
-    if width != 0 {
-        let tile = Tile {
-            level,
-            index: last,
-            width,
-        };
-        sync_way(rt, folder, tile_path(rt, folder, tile)?.as_str())?;
-    }
-    Ok(())
-}
-
 // Writes tiles of the log of a disk to a folder.
-fn write_all(
-    rt: &HostRuntime,
+fn write_all_of(
     disk: &FileDisk,
     size: usize,
     tiles: &[Tile],
-    folder: &str,
+    folder: &mut PublishedFolder<'_>,
 ) -> Result<(), Stop>
     requires fits { size < 2 ^ 63 }
     requires near { file_end size < 2 ^ 64 }
 {
-    let mut last = format!(in rt.alloc(); "")?;
-    for tile in tiles {
-        let path = tile_path(rt, folder, *tile)?;
-        if folder_of(path.as_str()) != folder_of(last.as_str()) {
-            fs::create_dir_all(rt, folder_of(path.as_str()))?;
-        }
-        write_tile(rt, disk, size, *tile, path.as_str())?;
-        last = path;
+    match write_each(disk, size, tiles, folder) {
+        Ok(()) => Ok(()),
+        Err(Unwritten::Log(stop)) => Err(Stop::from(stop)),
+        Err(Unwritten::Folder(why)) => Err(why),
     }
-    Ok(())
 }
 
 // Writes to a folder the tiles of a log of this size that a log of the old size has not, and those that the folder lacks, unless it is
@@ -156,7 +85,7 @@ fn write_tiles(
     disk: &FileDisk,
     old_size: usize,
     size: usize,
-    folder: &str,
+    folder: &mut PublishedFolder<'_>,
     lacks_none: bool,
 ) -> Result<Vec<Tile>, Stop>
     requires grown { old_size ≤ size }
@@ -165,25 +94,20 @@ fn write_tiles(
 {
     let mut written = Vec::new(rt.alloc());
     for level in 0..LEVELS {
-        let mut first = row_length(level, old_size) / FULL;
         if !lacks_none {
             let missing = missing_tiles(rt, old_size, size, level, folder)?;
-            write_all(rt, disk, size, &missing, folder)?;
+            write_all_of(disk, size, &missing, folder)?;
             for tile in missing {
                 written.push(tile)?;
             }
-            // whoever wrote the others may have ended before their names were on the disk
-            first = 0;
         }
         let new = new_tiles(rt.alloc(), old_size, size, level)?;
-        write_all(rt, disk, size, &new, folder)?;
-        if !lacks_none || !new.is_empty() {
-            sync_level(rt, size, level, first, folder)?;
-        }
+        write_all_of(disk, size, &new, folder)?;
         for tile in new {
             written.push(tile)?;
         }
     }
+    folder.sync()?;
     Ok(written)
 }
 
@@ -223,7 +147,7 @@ fn continues_old(rt: &HostRuntime, disk: &FileDisk, old: &Head) -> Result<(), St
 }
 
 /// Returns the size and the root of the log of a disk.
-pub fn head_of(disk: &FileDisk) -> Result<Head, Stop>
+pub fn stated_head(disk: &FileDisk) -> Result<Head, Stop>
     ensures fits { IfOk result (λ head. head.size < 2 ^ 63) }
     ensures near { IfOk result (λ head. file_end head.size < 2 ^ 64) }
 {
@@ -243,8 +167,9 @@ fn write_on(
     lacks_none: bool,
     log: Name,
     folder: Name,
+    into: &mut PublishedFolder<'_>,
 ) -> Result<Head, StopAt> {
-    let head = match head_of(disk) {
+    let head = match stated_head(disk) {
         Ok(head) => head,
         Err(why) => return Err(why.at(log.place)),
     };
@@ -252,7 +177,7 @@ fn write_on(
         return Err(Stop::Shrunk.at(log.place));
     }
     placed(log.place, continues_old(rt, disk, old))?;
-    let written = write_tiles(rt, disk, old.size, head.size, folder.text, lacks_none);
+    let written = write_tiles(rt, disk, old.size, head.size, into, lacks_none);
     let written = placed(folder.place, written)?;
     if !placed(folder.place, lead_to_root(rt, folder.text, &head, &written))? {
         return Err(Stop::Fault(Fault::Damaged).at(log.place));
@@ -262,11 +187,17 @@ fn write_on(
 
 // Writes to a folder the tiles of the log of a file while others may append to it: what a size has below it stays as it is. Each time
 // what was appended meanwhile is written, until that is little. Returns the head whose tiles are all there.
-fn write_meanwhile(rt: &HostRuntime, old: Head, log: Name, folder: Name) -> Result<Head, StopAt> {
+fn write_meanwhile(
+    rt: &HostRuntime,
+    old: Head,
+    log: Name,
+    folder: Name,
+    into: &mut PublishedFolder<'_>,
+) -> Result<Head, StopAt> {
     let mut head = old;
     for round in 0..ROUNDS {
         let disk = placed(log.place, opened_to_sign(rt, log.text))?;
-        let new = write_on(rt, &disk, &head, round > 0, log, folder)?;
+        let new = write_on(rt, &disk, &head, round > 0, log, folder, into)?;
         let count = new.size.saturating_sub(head.size);
         head = new;
         if count <= FEW {
@@ -284,9 +215,10 @@ fn sign_all(
     origin: Option<&str>,
     log: Name,
     folder: Name,
+    into: &mut PublishedFolder<'_>,
 ) -> Result<(Head, Vec<u8>), StopAt> {
     let mut disk = placed(log.place, signed_when_free(rt, log.text, PATIENCE))?;
-    let head = write_on(rt, &disk, written, true, log, folder)?;
+    let head = write_on(rt, &disk, written, true, log, folder, into)?;
     let note = placed(log.place, note_of(rt, &mut disk, signer, origin))?;
     Ok((head, note))
 }
@@ -307,7 +239,7 @@ pub fn publish(
     let signer = placed(key_file.place, signed_by(rt.alloc(), &text))?;
     // a file that is no log is told before the folder is made
     let disk = placed(log.place, opened_to_sign(rt, log.text))?;
-    placed(log.place, head_of(&disk))?;
+    placed(log.place, stated_head(&disk))?;
     if let Err(error) = fs::create_dir_all(rt, folder.text) {
         return Err(Stop::from(error).at(folder.place));
     }
@@ -316,16 +248,9 @@ pub fn publish(
     let checkpoint = checkpoint_name(rt, folder.text)?;
     let stated = stated_by_note(rt, &signer.verifier(), checkpoint.as_str(), origin);
     let old = placed(folder.place, stated)?;
-    let written = write_meanwhile(rt, old, log, folder)?;
-    let (head, note) = sign_all(rt, &written, &signer, origin, log, folder)?;
-    let done = write_checkpoint(rt, folder.text, checkpoint.as_str(), &note);
-    placed(folder.place, done)?;
+    let mut into = PublishedFolder::new(rt, folder.text);
+    let written = write_meanwhile(rt, old, log, folder, &mut into)?;
+    let (head, note) = sign_all(rt, &written, &signer, origin, log, folder, &mut into)?;
+    placed(folder.place, put_checkpoint(&mut into, &note))?;
     Ok(head)
-}
-
-// Writes the checkpoint of a folder, whose name is on the disk before, and returns once it is on the disk.
-fn write_checkpoint(rt: &HostRuntime, folder: &str, path: &str, note: &[u8]) -> Result<(), Stop> {
-    sync_above(rt, folder)?;
-    write_whole(rt, path, note)?;
-    sync_folder_of(rt, path)
 }

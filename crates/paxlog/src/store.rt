@@ -31,12 +31,14 @@ pub fn sync_folder_of(rt: &HostRuntime, path: &str) -> Result<(), Stop> {
     Ok(())
 }
 
-// Makes a file ready for appends: a file that has no byte, or no more than a part of the head of no entries, gets that head, and of
-// another one the head is written again. The folder is synced too as long as the log has no entry: whoever made the file may have
-// ended before its name was on the disk.
+// Makes a file ready for appends: a file that has no byte, or no more than a part of the two sectors of no entries, gets these sectors;
+// a part of an older head is completed, and of another file the head is written again. The folder is synced too as long as the
+// log has no entry: whoever made the file may have ended before its name was on the disk.
 fn make_file(rt: &HostRuntime, path: &str, disk: &mut FileDisk) -> Result<(), Stop> {
     let has_entries = disk.length()? > START;
-    log_store::make(disk)?;
+    if !disk.lay_out()? {
+        log_store::make(disk)?;
+    }
     if !has_entries {
         sync_folder_of(rt, path)?;
     }
@@ -310,12 +312,12 @@ pub fn recoverable_of_file(rt: &HostRuntime, path: &str) -> Result<Recovered, St
     Ok(log_store::recoverable(&disk)?)
 }
 
-// A new file, where there is none, with its lock.
+// A new file, where there is none, with its lock. Its slots will lie in two sectors.
 fn created(rt: &HostRuntime, path: &str) -> Result<FileDisk, Stop> {
     let mut how = OpenOptions::new();
     let file = how.read(true).write(true).create_new(true).open(rt, path)?;
     file.try_lock()?;
-    Ok(FileDisk::new(file))
+    Ok(FileDisk::blank(file)?)
 }
 
 /// Returns 32 bytes of the system's random numbers.
