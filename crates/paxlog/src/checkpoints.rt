@@ -108,15 +108,6 @@ pub fn verifier(alloc: Global, words: &[Vec<u8>], key: Word) -> Result<Verifier<
     }
 }
 
-/// Returns the policy of who takes the log's signature alone.
-pub fn signed_by_log<'a>(log: &Verifier<'a>) -> Policy<'a> {
-    Policy {
-        log: *log,
-        witnesses: &[],
-        quorum: 0,
-    }
-}
-
 /// Returns the size and the root that a checkpoint states, where the key signed it and its origin is the one that is named, or
 /// the name of the key.
 pub fn opened(
@@ -125,7 +116,11 @@ pub fn opened(
     note: &[u8],
     origin: Option<&str>,
 ) -> Result<(usize, [u8; 32]), signed_notes::Fault> {
-    let policy = signed_by_log(log);
+    let policy = Policy {
+        log: *log,
+        witnesses: &[],
+        quorum: 0,
+    };
     let Checkpoint { size, root, .. } = open_checkpoint(
         alloc,
         note,
@@ -144,7 +139,11 @@ pub fn shown(
     entry: &[u8],
     origin: Option<&str>,
 ) -> Result<Option<(usize, [u8; 32])>, ReceiptFault> {
-    let policy = signed_by_log(log);
+    let policy = Policy {
+        log: *log,
+        witnesses: &[],
+        quorum: 0,
+    };
     verify_receipt(alloc, receipt, entry, origin.unwrap_or(log.name), &policy)
 }
 

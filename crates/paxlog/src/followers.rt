@@ -2,27 +2,26 @@
 
 ghost use Rattle.std.specs.Prelude.{◌<◌, ◌^◌, [], IfOk};
 
-use crate::checkpoints::{opened, signed_by_log, without_feed};
+use crate::checkpoints::{opened, without_feed};
 use crate::entries::EntryReader;
-use crate::folders::{CHECKPOINT, FolderTiles, TileFault};
+use crate::folders::{CHECKPOINT, FolderTiles};
 use crate::keeping::{keep_entries, kept_entries};
 use crate::reading::{if_found, key_file_bytes, note_bytes};
 use crate::stop::{Stop, StopAt, placed};
 use crate::store::sync_folder_of;
 use crate::words::Name;
 use crate::writing::{locked, locked_folder, remove_whole, write_whole};
-use log_checkpoints::{Unwitnessed, Witness, witness_checkpoint};
 use log_file::fault::Fault;
 use log_store::InclusionProof;
 use log_tiles::{
-    Head, HeadFile, TileDisk, Unfollowed, Unmoved, Unread, audit as is_sound, continues,
-    follow as step, prove_in_tiles as proof_of,
+    Head, HeadFile, TileDisk, Unfollowed, Unmoved, audit as is_sound, continues, follow as step,
+    prove_in_tiles as proof_of,
 };
 use merkle_log::kept::is_size;
 use paxlog_run::replies::{line_of, line_of_root};
 use paxlog_run::request::Entries;
 use sha2::{Digest, Sha256};
-use signed_notes::{Cosigner, Verifier};
+use signed_notes::{Cosigner, Verifier, cosign};
 use std::fs::File;
 use std::time::{SystemTime, UNIX_EPOCH};
 use std::{fs, io};
@@ -301,36 +300,25 @@ impl<'a> HeadFile for StateFile<'a> {
     }
 }
 
-// The file of a state.
-fn state_file<'a>(rt: &'a HostRuntime, from: &Source<'a>, state: &Name<'a>) -> StateFile<'a> {
-    StateFile {
+// Moves a state, which is locked, on to the checkpoint of a folder. Where no log has both, the evidence is kept beside the state.
+fn move_on(rt: &HostRuntime, from: &Source, state: Name, new: &Published) -> Result<(), StopAt> {
+    let folder = from.folder;
+    let disk = log_in_folder(rt, folder.text, &new.head)?;
+    let mut file = StateFile {
         rt,
         path: state.text,
         key: from.key,
         origin: from.origin,
-    }
-}
-
-// Why a state did not move on to the checkpoint of a folder, whose tiles the disk reads. Where no log has both, the evidence is kept
-// beside the state.
-fn why_unmoved(
-    rt: &HostRuntime,
-    from: &Source,
-    state: Name,
-    disk: &TileDisk<FolderTiles<'_>>,
-    new: &Published,
-    why: Unmoved<Unread<TileFault>, Stop>,
-) -> StopAt {
-    let folder = from.folder;
-    match why {
-        Unmoved::File(why) => why.at(state.place),
-        Unmoved::Unfollowed(old, Unfollowed::Fork) => {
-            match keep_evidence(rt, state.text, disk, &old, new) {
-                Ok(()) => Stop::Fork.at(folder.place),
-                Err(why) => why.at(state.place),
-            }
+    };
+    match step(rt.alloc(), &disk, &mut file, &new.head, &new.note) {
+        Ok(()) => Ok(()),
+        Err(Unmoved::File(why)) => Err(why.at(state.place)),
+        Err(Unmoved::Unfollowed(old, Unfollowed::Fork)) => {
+            let kept = keep_evidence(rt, state.text, &disk, &old, new);
+            placed(state.place, kept)?;
+            Err(Stop::Fork.at(folder.place))
         }
-        Unmoved::Unfollowed(_, why) => Stop::from(why).at(folder.place),
+        Err(Unmoved::Unfollowed(_, why)) => Err(Stop::from(why).at(folder.place)),
     }
 }
 
@@ -339,12 +327,8 @@ fn why_unmoved(
 pub fn follow(rt: &HostRuntime, from: &Source, state: Name) -> Result<Head, StopAt> {
     let _lock = placed(state.place, locked_state(rt, state.text, true))?;
     let new = placed(from.folder.place, read_checkpoint(rt, from))?;
-    let disk = log_in_folder(rt, from.folder.text, &new.head)?;
-    let mut file = state_file(rt, from, &state);
-    match step(rt.alloc(), &disk, &mut file, &new.head, &new.note) {
-        Ok(()) => Ok(new.head),
-        Err(why) => Err(why_unmoved(rt, from, state, &disk, &new, why)),
-    }
+    move_on(rt, from, state, &new)?;
+    Ok(new.head)
 }
 
 // The seconds since 1970. A witness states them, so a clock that stands before is refused.
@@ -356,7 +340,7 @@ fn seconds_now(rt: &HostRuntime) -> Result<u64, Stop> {
 }
 
 /// Moves a witness's state on as `follow`, and returns the checkpoint with the witness's signature and the time. The state is there. It
-/// moves once the checkpoint is signed, and nothing is returned before that is on the disk (`log_checkpoints::witness_checkpoint`).
+/// moves once the checkpoint is signed, and nothing is returned before that is on the disk.
 pub fn witness(
     rt: &HostRuntime,
     from: &Source,
@@ -370,17 +354,16 @@ pub fn witness(
     };
     let _lock = placed(state.place, locked_state(rt, state.text, false))?;
     let new = placed(from.folder.place, read_checkpoint(rt, from))?;
-    let disk = log_in_folder(rt, from.folder.text, &new.head)?;
-    let mut file = state_file(rt, from, &state);
-    let who = Witness {
-        policy: signed_by_log(&from.key),
-        origin: from.origin.unwrap_or(from.key.name),
-        key: cosigner,
+    let note = match cosign(
+        rt.alloc(),
+        &new.note,
+        &from.key,
+        &cosigner,
+        seconds_now(rt)?,
+    ) {
+        Ok(note) => note,
+        Err(fault) => return Err(Stop::from(fault).at(from.folder.place)),
     };
-    let time = seconds_now(rt)?;
-    match witness_checkpoint(rt.alloc(), &disk, &mut file, &new.note, &who, time) {
-        Ok(note) => Ok(note),
-        Err(Unwitnessed::Note(fault)) => Err(Stop::from(fault).at(from.folder.place)),
-        Err(Unwitnessed::Unmoved(why)) => Err(why_unmoved(rt, from, state, &disk, &new, why)),
-    }
+    move_on(rt, from, state, &new)?;
+    Ok(note)
 }
