@@ -93,7 +93,7 @@ pub use Rattle.merkle_log.specs.Bind.{IsLeafInclusion, StandsOrPathCollides}
 pub use Rattle.merkle_log.specs.Binding.{HighestIn, IsHighest, LeafHighestIn, is_accepted, leaf_verdict_in, verdict_in}
 pub use Rattle.merkle_log.specs.Collision.{HistoriesCollide, PathCollidesAt, WalkCollides}
 pub use Rattle.merkle_log.specs.Edge.{all_of, root_pairs}
-pub use Rattle.merkle_log.specs.Frontier.{FrontierValue, IsFrontier, RefusesPeak, frontier_in}
+pub use Rattle.merkle_log.specs.Frontier.{CanJoin, FrontierValue, IsFrontier, RefusesPeak, RefusesTree, frontier_in}
 pub use Rattle.merkle_log.specs.Log.{LogValue, both_levels, consistency_path, inclusion_path, merkle_tree_hash, root_at}
 pub use Rattle.merkle_log.specs.Log.{with_more}
 pub use Rattle.merkle_log.specs.Received.{ShowsFront, ShowsLogLeaf, consistency_length, digests_in, inclusion_length}

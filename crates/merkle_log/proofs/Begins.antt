@@ -1,18 +1,17 @@
 -- What a consistency proof that is accepted says of one list with the new root: of its front's root.
-use Rattle.std.proofs.Common.{zero, suc, ◌≡◌, ◌≢◌, ℕ, ◌+◌, ◌-◌, ◌/◌, ◌%◌, ◌<◌, ◌≤◌, ◌^◌, ◌⊎◌, Bool, true, false, ◌==◌, if◌then◌else◌, List, [], ◌∷◌, ◌++◌, length, map, take, get_or, Result, Ok, Some, arith, refl, ap, sym, ◌∙◌, inl, inr}
+use Rattle.std.proofs.Common.{zero, suc, ◌≡◌, ◌≢◌, ℕ, ◌+◌, ◌-◌, ◌/◌, ◌%◌, ◌<◌, ◌≤◌, ◌^◌, ◌⊎◌, ◌==◌, if◌then◌else◌, List, [], ◌∷◌, ◌++◌, length, take, get_or, Result, Ok, Some, arith, refl, ap, sym, ◌∙◌, inl, inr}
 use Rattle.std.proofs.lemmas.Bool.{cases_lt, cases_eq, cases_Bool, eq-eqb, ne_eqb}
-use Rattle.std.proofs.lemmas.List.{take_more, take_all, length-map, length-append, length-take-le, map-append}
-use Rattle.ark_base.specs.Outcome.{◌>>=◌}
-use Rattle.ark_base.specs.Laws.Steps.{bind_ok, done_injective}
+use Rattle.std.proofs.lemmas.List.{take_more, length-map, length-append, length-take-le, map-append}
+use Rattle.ark_base.specs.Laws.Steps.{done_injective}
 use Rattle.merkle_log.specs.Trees.{tree_hash}
 use Rattle.merkle_log.specs.Collision.{NewCollidesAt, WalkCollides}
-use Rattle.merkle_log.specs.Walk.{joined, walk, both_left, new_right, from_shared, from_seed, both_roots, has_beside, index_up, in_order, Meets}
+use Rattle.merkle_log.specs.Walk.{joined, walk, both_left, new_right, from_shared, from_seed, both_roots, has_beside, in_order, Meets}
 use Rattle.merkle_log.proofs.RowsUp.{row_up, tree_hash-up}
 use Rattle.merkle_log.proofs.Above.{there, IsAbove, row_above, above-pair, above-last, above-take, row_up-cut}
 use Rattle.merkle_log.proofs.Agree.{both_roots-odd, both_roots-even, both_stepped, higher_pair, seed_here, seed_higher}
-use Rattle.merkle_log.proofs.Sound.{turn, walk-alone, stepped, had_next, ended, meets-zero, meets-up, moves-beside, moves-alone, beside-inside, alone-last}
-use Rattle.merkle_log.proofs.Tests.{twice, odd_test, even_test, if_even}
-use Rattle.merkle_log.proofs.TreePairs.{pair_of, own_of, tree_pair-up, tree_pair-zero, same_pairs}
+use Rattle.merkle_log.proofs.Sound.{walk-alone, stepped, had_next, ended, meets-zero, meets-up, moves-beside, moves-alone, beside-inside, alone-last}
+use Rattle.merkle_log.proofs.Tests.{odd_test, even_test, if_even}
+use Rattle.merkle_log.proofs.TreePairs.{pair_of, own_of, tree_pair-zero, same_pairs}
 
 module _ {D E : Type 0} (same : (x y : D) → (x ≡ y) ⊎ (x ≢ y)) (hash : D → D → Result D E) (none : D)
     (empty : Result D E) where

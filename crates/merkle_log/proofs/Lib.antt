@@ -27,6 +27,8 @@ pub mod Counted
 pub mod Halving
 pub mod Peaks
 pub mod Merging
+pub mod Subtrees
+pub mod Joined
 pub mod Lengths
 pub mod Receiving
 pub mod Bytes

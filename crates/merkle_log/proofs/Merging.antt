@@ -8,14 +8,14 @@ use Rattle.ark_base.specs.Outcome.{Outcome}
 use Rattle.merkle_log.specs.Walk.{index_up, joined}
 use Rattle.ark_paths.specs.Pair.{Digest}
 use Rattle.merkle_log.specs.Log.{NodeHash, merkle_tree_hash}
-use Rattle.merkle_log.specs.Frontier.{complete_pairs, frontier, peak_back, IsFrontier, RefusesPeak}
+use Rattle.merkle_log.specs.Frontier.{complete_pairs, frontier, peak_back, HasPeaks, IsFrontier, RefusesPeak}
 use Rattle.merkle_log.proofs.Tests.{fewer}
 use Rattle.merkle_log.proofs.Carried.{chain-more, odd-more}
 use Rattle.merkle_log.proofs.Completing.{digest-read}
 use Rattle.merkle_log.proofs.Positions.{up-more}
 use Rattle.merkle_log.proofs.Verdicts.{pow_above}
 use Rattle.merkle_log.proofs.Lasts.{Node, node_rows}
-use Rattle.merkle_log.proofs.Peaks.{length-complete_pairs, frontier-odd, frontier-push_even, frontier-push_odd, frontier-levels, folded, folded-push, root-folded}
+use Rattle.merkle_log.proofs.Peaks.{length-complete_pairs, frontier-odd, frontier-push_even, frontier-push_odd, frontier-any, frontier-levels, folded, folded-push, root-folded}
 
 -- ---- a digest more
 
@@ -29,21 +29,18 @@ pub record Merging (hash : NodeHash) (empty : Digest) (peaks : List Digest) (cou
   pub peaks_are : frontier (joined hash) (Ok empty) levels row ≡ node_rows (take left peaks)
   pub is : frontier (joined hash) (Ok empty) (suc levels) (row ++ (Ok last ∷ [])) ≡ goal
 
-pub merging-first : {hash : NodeHash} (empty : Digest) {digests : List Digest} {size left : ℕ} {peaks : List Digest}
-    {digest : Digest} → length peaks ≡ left → IsFrontier hash digests size peaks
-    → Merging hash empty peaks size left digest (frontier (joined hash) (Ok empty) (length (digests ++ (digest ∷ [])))
-    (node_rows (digests ++ (digest ∷ []))))
-merging-first {hash} empty {digests} {size} {left} {peaks} {digest} left_is own =
-    let more : suc (length digests) ≡ length (digests ++ (digest ∷ [])) =
-    omega (arith, length-append digests (digest ∷ [])) in
+pub merging-first : {hash : NodeHash} (empty : Digest) {row : List Node} {size left : ℕ} {peaks : List Digest}
+    {digest : Digest} → length peaks ≡ left → length row ≡ size → HasPeaks hash row peaks
+    → Merging hash empty peaks size left digest (frontier (joined hash) (Ok empty) (suc size) (row ++ (Ok digest ∷ [])))
+merging-first {hash} empty {row} {size} {left} {peaks} {digest} left_is size_is own =
     record {
-      row = node_rows digests;
-      levels = length digests;
-      size = length-map digests Ok ∙ own.size_is;
-      high = omega (arith, pow_above (length digests), own.size_is);
-      peaks_are = own.peaks_are empty ∙ ap node_rows (sym (take_all left peaks (omega arith)));
-      is = ap (frontier (joined hash) (Ok empty) (suc (length digests))) (sym (map-append Ok digests (digest ∷ [])))
-          ∙ ap (λ m. frontier (joined hash) (Ok empty) m (node_rows (digests ++ (digest ∷ [])))) more;
+      row = row;
+      levels = size;
+      size = size_is;
+      high = pow_above size;
+      peaks_are = own.at empty size (omega (arith, size_is, pow_above size))
+          ∙ ap node_rows (sym (take_all left peaks (omega arith)));
+      is = refl;
     }
 
 module _ {A : Type 0} (numbers : A → Digest) (items : List A) {hash : NodeHash} {empty : Digest} where
@@ -107,13 +104,14 @@ merging-end {hash} {empty} {peaks} {count} {left} {last} at even =
     (omega (arith, at.size, at.high)) ∙ at.peaks_are)
     ∙ sym (map-append Ok (take left peaks) (last ∷ []))
 
--- The digests and one more have this frontier.
-pub frontier-more : {hash : NodeHash} {digests : List Digest} {size : ℕ} {peaks new : List Digest} (digest : Digest)
-    → IsFrontier hash digests size peaks → ((empty : Digest) → frontier (joined hash) (Ok empty)
-    (length (digests ++ (digest ∷ []))) (node_rows (digests ++ (digest ∷ []))) ≡ node_rows new)
-    → IsFrontier hash (digests ++ (digest ∷ [])) (size + 1) new
-frontier-more {hash} {digests} {size} {peaks} {new} digest own is =
-    record { size_is = length-append digests (digest ∷ []) ∙ ap (λ n. n + 1) own.size_is; peaks_are = is }
+-- The row and one more have these peaks.
+pub peaks-more : {hash : NodeHash} (row : List Node) {size : ℕ} {peaks : List Digest} (digest : Digest)
+    → length row ≡ size → ((empty : Digest) → frontier (joined hash) (Ok empty) (suc size) (row ++ (Ok digest ∷ []))
+    ≡ node_rows peaks) → HasPeaks hash (row ++ (Ok digest ∷ [])) peaks
+peaks-more {hash} row {size} {peaks} digest size_is is = record {
+  at = λ empty levels high. frontier-any (joined hash) (Ok empty) levels (suc size) (row ++ (Ok digest ∷ [])) high
+      (omega (arith, length-append row (Ok digest ∷ []), size_is, pow_above (suc size))) ∙ is empty;
+}
 
 -- ---- the pairs that are hashed for it
 

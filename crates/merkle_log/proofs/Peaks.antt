@@ -1,11 +1,11 @@
 -- Frontiers against trees.
-use Rattle.std.proofs.Common.{zero, suc, ◌≡◌, ℕ, ◌+◌, ◌-◌, ◌/◌, ◌%◌, ◌<◌, ◌^◌, ◌==◌, if◌then◌else◌, List, [], ◌∷◌, ◌++◌, length, take, get_or, arith, refl, ap, sym, ◌∙◌, inl, inr}
+use Rattle.std.proofs.Common.{zero, suc, ◌≡◌, ℕ, ◌+◌, ◌-◌, ◌/◌, ◌%◌, ◌<◌, ◌≤◌, ◌^◌, ◌==◌, if◌then◌else◌, List, [], ◌∷◌, ◌++◌, length, take, get_or, arith, refl, ap, sym, ◌∙◌, inl, inr}
 use Rattle.std.proofs.lemmas.Bool.{cases_lt}
 use Rattle.std.proofs.lemmas.List.{length-append, length-take-le, append-nil, take_more, take_all, same_from_push, get_or_push}
 use Rattle.merkle_log.specs.Trees.{tree_hash}
 use Rattle.merkle_log.specs.Frontier.{complete_pairs, frontier}
 use Rattle.merkle_log.proofs.RowsUp.{row_up, tree_hash-up}
-use Rattle.merkle_log.proofs.Tests.{twice, odd_test, even_test}
+use Rattle.merkle_log.proofs.Tests.{twice, odd_test, even_test, power-rises, stays}
 
 pub length-complete_pairs : {A : Type 0} (join : A → A → A) (xs : List A) → length (complete_pairs join xs)
     ≡ length xs / 2
@@ -36,7 +36,7 @@ row_up-even join [] x even = refl
 row_up-even join (a ∷ []) x even = absurd (omega arith)
 row_up-even join (a ∷ b ∷ rest) x even = ap (λ l. join a b ∷ l) (row_up-even join rest x (omega arith))
 
-row_up-whole : {A : Type 0} (join : A → A → A) (xs : List A) → length xs % 2 ≡ 0 → row_up join xs
+pub row_up-whole : {A : Type 0} (join : A → A → A) (xs : List A) → length xs % 2 ≡ 0 → row_up join xs
     ≡ complete_pairs join xs
 row_up-whole join [] even = refl
 row_up-whole join (a ∷ []) even = absurd (omega arith)
@@ -89,6 +89,16 @@ frontier-levels join none zero (x ∷ xs) high = absurd (omega arith)
 frontier-levels join none (suc k) xs high =
     ap (λ l. l ++ (if length xs % 2 == 1 then (get_or xs (length xs - 1) none ∷ []) else [])) (frontier-levels join none
     k (complete_pairs join xs) (fewer_pairs join k xs high))
+
+-- Any two counts of levels that are high enough make the same.
+pub frontier-any : {A : Type 0} (join : A → A → A) (none : A) (j k : ℕ) (xs : List A) → length xs < 2 ^ j
+    → length xs < 2 ^ k → frontier join none j xs ≡ frontier join none k xs
+frontier-any join none j k xs low high = sym (up j low (omega arith)) ∙ up k high (omega arith)
+  where
+    up : (m : ℕ) → length xs < 2 ^ m → m ≤ j + k → frontier join none (j + k) xs ≡ frontier join none m xs
+    up m less le =
+        stays (λ n. frontier join none n xs) m (j + k) le
+        (λ n le. frontier-levels join none n xs (omega (arith, power-rises m n le)))
 
 -- ---- the root of a frontier
 

@@ -1,5 +1,5 @@
 -- The roots of the complete trees of a list, which are all that its root and its growth need.
-use Rattle.std.specs.Prelude.{count_ones, ◌≡◌, ◌<◌, ◌≤◌, ℕ, zero, suc, ◌-◌, ◌%◌, ◌==◌, if◌then◌else◌, List, [], ◌∷◌, ◌++◌, length, map, get_or, Ok, Err}
+use Rattle.std.specs.Prelude.{count_ones, ◌≡◌, ◌<◌, ◌≤◌, ◌^◌, ◌+◌, ◌/◌, ◌%◌, ℕ, zero, suc, ◌-◌, ◌==◌, if◌then◌else◌, List, [], ◌∷◌, ◌++◌, length, map, get_or, Ok, Err}
 use Rattle.ark_base.specs.declared.error.Error.{Error}
 use Rattle.ark_base.specs.Outcome.{Outcome, ◌>>=◌}
 use Rattle.ark_base.specs.Reading.{Reading, reading_outcome}
@@ -35,6 +35,11 @@ pub record IsFrontier (hash : NodeHash) (digests : List Digest) (size : ℕ) (pe
   pub size_is : length digests ≡ size
   pub peaks_are : (empty : Digest) → frontier (joined hash) (Ok empty) (length digests) (map Ok digests) ≡ map Ok peaks
 
+-- A row of a tree has these roots of complete trees, however many levels are looked at.
+pub record HasPeaks (hash : NodeHash) (row : List (Outcome Digest)) (peaks : List Digest) : Type 0 where
+  pub at : (empty : Digest) (levels : ℕ) → length row < 2 ^ levels
+      → frontier (joined hash) (Ok empty) levels row ≡ map Ok peaks
+
 -- the last root but some
 abbrev pub peak_back : List Digest → ℕ → Digest
 peak_back peaks k = get_or peaks (length peaks - 1 - k) []
@@ -49,6 +54,30 @@ pub record RefusesPeak (hash : NodeHash) (size : ℕ) (peaks : List Digest) (dig
   pub odd : (k : ℕ) → k ≤ level → index_up k size % 2 ≡ 1
   pub hashed : (k : ℕ) → k < level → hash (peak_back peaks k) (get_or made k []) ≡ Ok (get_or made (suc k) [])
   pub refused : hash (peak_back peaks level) (get_or made level []) ≡ Err error
+
+-- A list of so many more digests can stand behind one of this size: the size is a multiple of each of its trees' sizes,
+-- so that no tree of the first list is joined with a part of one of the second.
+pub record CanJoin (size more : ℕ) : Type 0 where
+  pub fits : size + more < 2 ^ 64
+  pub aligned : (level : ℕ) → 2 ^ level ≤ more → size % 2 ^ level ≡ 0
+
+-- Of a list that comes behind another, the first trees stand in the frontier, and the others wait.
+pub record IsJoinedUpTo (hash : NodeHash) (digests more : List Digest) (at waits : ℕ × List Digest) : Type 0 where
+  pub first : List Digest
+  pub last : List Digest
+  pub is : more ≡ first ++ last
+  pub done : IsFrontier hash (digests ++ first) at.0 at.1
+  pub left : IsFrontier hash last waits.0 waits.1
+
+-- A list's first trees are put behind another list by their roots. Of what the next one's root makes with the last
+-- roots the hash refuses a pair with this error.
+pub record RefusesTree (hash : NodeHash) (own other : ℕ × List Digest) (error : Error) : Type 0 where
+  pub at : ℕ × List Digest
+  pub waits : ℕ × List Digest
+  pub level : ℕ
+  pub joined : (digests more : List Digest) → IsFrontier hash digests own.0 own.1
+      → IsFrontier hash more other.0 other.1 → IsJoinedUpTo hash digests more at waits
+  pub refused : RefusesPeak hash (at.0 / 2 ^ level) at.1 (get_or waits.1 0 []) error
 
 -- ---- bytes
 

@@ -1,11 +1,11 @@
 //! Frontiers: the roots of the complete trees of a list, which are all that its root and its growth need.
 
 ghost use Rattle.std.specs.List.{flat_map};
-ghost use Rattle.std.specs.Prelude.{◌≡◌, ◌⊎◌, ◌<◌, ◌≤◌, ◌+◌, ◌^◌, ◌++◌, ◌∷◌, ℕ, List, [], length, map, take, count_ones, IfOk, IfErr, OnOk, OnErr, Ok};
+ghost use Rattle.std.specs.Prelude.{◌≡◌, ◌⊎◌, ◌<◌, ◌≤◌, ◌+◌, ◌^◌, ◌%◌, ◌/◌, ◌++◌, ◌∷◌, ℕ, List, [], length, map, take, count_ones, IfOk, IfErr, OnOk, OnErr, Ok};
 ghost use Rattle.ark_base.specs.declared.error.Error.TheVariants.{OutOfMemory};
-ghost use Rattle.ark_base.specs.Outcome.{Answers, AnswersBy};
+ghost use Rattle.ark_base.specs.Outcome.{Answers, AnswersBy, Outcome};
 ghost use Rattle.ark_base.specs.Spelling.{word};
-ghost use Rattle.merkle_log.specs.Frontier.{FrontierValue, IsFrontier, RefusesPeak, frontier_in, peaks_in};
+ghost use Rattle.merkle_log.specs.Frontier.{FrontierValue, HasPeaks, IsFrontier, RefusesPeak, frontier_in, peaks_in};
 ghost use Rattle.ark_paths.specs.Pair.{Digest};
 ghost use Rattle.ark_paths.specs.Rows.{digests_of};
 ghost use Rattle.merkle_log.specs.Log.{merkle_tree_hash};
@@ -24,8 +24,8 @@ use std::marker::Model;
 pub struct Frontier<D: DigestItem, T: TreeHasher<D, D>> {
     hasher: T,
     empty: D,
-    size: u64,
-    peaks: Vec<D>,
+    pub(crate) size: u64,
+    pub(crate) peaks: Vec<D>,
 }
 
 impl<D: DigestItem, T: TreeHasher<D, D>> Model for Frontier<D, T> {
@@ -41,7 +41,7 @@ impl<D: DigestItem, T: TreeHasher<D, D>> Model for Frontier<D, T> {
     ghost invariant = { λ frontier. length frontier.peaks.items ≡ count_ones frontier.size };
 }
 
-// What a digest behind a list of this size makes of the last peaks, and how many peaks are left before it.
+// What a digest behind a row of so many makes of the row's last peaks, and how many peaks are left before it.
 fn merge<D: DigestItem, T: TreeHasher<D, D>>(
     alloc: Global,
     hasher: &T,
@@ -51,10 +51,10 @@ fn merge<D: DigestItem, T: TreeHasher<D, D>>(
 ) -> Result<(usize, D), Error>
     requires count { length peaks.now ≡ count_ones size }
     requires fits { size + 1 < 2 ^ 64 }
-    ensures merged { IfOk result (λ merged. (digests : List Digest)
-        → IsFrontier (T.hashes hasher.now).pair.upper digests size (map D.numbers peaks.now)
-        → IsFrontier (T.hashes hasher.now).pair.upper (digests ++ (D.numbers digest ∷ []))
-        (size + 1) (take merged.0 (map D.numbers peaks.now) ++ (D.numbers merged.1 ∷ []))) }
+    ensures merged { IfOk result (λ merged. (row : List (Outcome Digest)) → length row ≡ size
+        → HasPeaks (T.hashes hasher.now).pair.upper row (map D.numbers peaks.now)
+        → HasPeaks (T.hashes hasher.now).pair.upper (row ++ (Ok (D.numbers digest) ∷ []))
+        (take merged.0 (map D.numbers peaks.now) ++ (D.numbers merged.1 ∷ []))) }
     ensures count { IfOk result (λ merged. merged.0 + 1 ≡ count_ones (size + 1)) }
     ensures within { IfOk result (λ merged. merged.0 ≤ length peaks.now) }
     ensures refused { IfErr result (λ error. (error ≡ OutOfMemory)
@@ -146,11 +146,36 @@ impl<D: DigestItem, T: TreeHasher<D, D>> Frontier<D, T> {
             ⊎ RefusesPeak (T.hashes self.old.hasher).pair.upper self.old.size self.old.peaks
             (D.numbers digest) error) }
     {
-        let (left, last) = merge(alloc, &self.hasher, &self.peaks, self.size, digest)?;
+        self.append_subtree(alloc, 0, digest)
+    }
+
+    /// Puts a complete tree of 2 ^ level digests behind the others, by its root, whoever computed it.
+    ///
+    /// Errors, which leave the frontier as it was: that of the first pair that the hash refuses; `OutOfMemory`.
+    pub fn append_subtree(&mut self, alloc: Global, level: u32, root: D) -> Result<(), Error>
+        requires fits { self.old.size + 2 ^ level < 2 ^ 64 }
+        requires aligned { self.old.size % 2 ^ level ≡ 0 }
+
+        // The frontier of a list of digests becomes that of the list with those of the tree behind.
+        ensures appended { let hash = (T.hashes self.old.hasher).pair.upper in
+            OnOk result ((digests more : List Digest)
+            → IsFrontier hash digests self.old.size self.old.peaks
+            → length more ≡ 2 ^ level
+            → merkle_tree_hash hash self.old.empty more ≡ Ok (D.numbers root)
+            → IsFrontier hash (digests ++ more) self.new.size self.new.peaks) }
+        ensures size { OnOk result (self.new.size ≡ self.old.size + 2 ^ level) }
+        ensures hasher { self.new.hasher ≡ self.old.hasher }
+        ensures empty { self.new.empty ≡ self.old.empty }
+        ensures kept { OnErr result (self.new ≡ self.old) }
+        ensures refused { IfErr result (λ error. (error ≡ OutOfMemory)
+            ⊎ RefusesPeak (T.hashes self.old.hasher).pair.upper (self.old.size / 2 ^ level)
+            self.old.peaks (D.numbers root) error) }
+    {
+        let (left, last) = merge(alloc, &self.hasher, &self.peaks, self.size >> level, root)?;
         self.peaks.reserve(1)?;
         self.peaks.truncate(left);
         self.peaks.push_reserved(last);
-        self.size += 1;
+        self.size += 1 << level;
         Ok(())
     }
 

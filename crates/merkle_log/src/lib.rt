@@ -7,6 +7,7 @@ pub mod consistency;
 mod digests;
 pub mod frontier;
 pub mod inclusion;
+mod joining;
 pub mod kept;
 mod laying;
 pub mod log;

@@ -4,7 +4,7 @@ use Rattle.std.proofs.lemmas.Result.{err_from_is_err_and}
 use Rattle.std.specs.Prelude.{count_ones}
 use Rattle.merkle_log.proofs.Positions.{half_ones}
 use Rattle.merkle_log.proofs.Completing.{digest-read}
-use Rattle.merkle_log.proofs.Merging.{made-first, made-next, made-refused, merging-first, merging-next, merging-end, frontier-more}
+use Rattle.merkle_log.proofs.Merging.{made-first, made-next, made-refused, merging-first, merging-next, merging-end, peaks-more}
 use Rattle.merkle_log.proofs.frontier.merge.Goals as goal
 
 pub odd-init : goal.odd-init
@@ -13,7 +13,7 @@ odd-init g c = record {
   within = omega arith;
   made = made-first (length-map c.args.peaks.now g.D.Numbered.numbers);
   same = refl;
-  at = λ empty digests frontier. merging-first empty (length-map c.args.peaks.now g.D.Numbered.numbers) frontier;
+  at = λ empty row size own. merging-first empty (length-map c.args.peaks.now g.D.Numbered.numbers) size own;
 }
 
 pub overflow_sub-left : goal.overflow_sub-left
@@ -35,8 +35,8 @@ odd-preserved g c =
       made = made-next c.odd.invariant.made c.odd-test.true (c.odd.left - 1) own _
           (rw (← peak) c.in_ok-last.ensures);
       same = omega (arith, c.odd.invariant.same, half_ones (c.odd.count + 1), ap count_ones up);
-      at = λ empty digests frontier. merging-next g.D.Numbered.numbers c.args.peaks.now
-          (c.odd.invariant.at empty digests frontier) c.odd-test.true (c.odd.left - 1)
+      at = λ empty row size own. merging-next g.D.Numbered.numbers c.args.peaks.now
+          (c.odd.invariant.at empty row size own) c.odd-test.true (c.odd.left - 1)
           (omega (arith, half_ones c.odd.count, c.odd.invariant.left)) c.odd.invariant.within c.index-peaks-left.result
           c.index-peaks-left.is c.in_ok-last.ensures;
     }
@@ -55,9 +55,10 @@ returns-in_err-last-clause-refused g c =
     ])
 
 pub returns-clause-merged : goal.returns-clause-merged
-returns-clause-merged g c = λ digests frontier.
-    frontier-more (g.D.Numbered.numbers c.args.digest) frontier (λ empty. merging-end
-    (c.odd.invariant.at empty digests frontier) (omega arith))
+returns-clause-merged g c = λ row size own.
+    peaks-more row (g.D.Numbered.numbers c.args.digest) size (λ empty. merging-end
+    (c.odd.invariant.at empty row size own)
+    (omega arith))
 
 pub returns-clause-count : goal.returns-clause-count
 returns-clause-count g c =

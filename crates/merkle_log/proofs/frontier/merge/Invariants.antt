@@ -1,9 +1,9 @@
-use Rattle.std.proofs.Common.{◌≡◌, ◌+◌, ◌≤◌, ◌++◌, ◌∷◌, [], List, length, map, Ok}
+use Rattle.std.proofs.Common.{suc, ◌≡◌, ◌+◌, ◌≤◌, ◌++◌, ◌∷◌, [], List, length, map, Ok}
 use Rattle.std.specs.Prelude.{count_ones}
-use Rattle.merkle_log.specs.Frontier.{frontier, IsFrontier}
+use Rattle.merkle_log.specs.Frontier.{frontier, HasPeaks}
 use Rattle.merkle_log.specs.Walk.{joined}
 use Rattle.ark_paths.specs.Pair.{Digest}
-use Rattle.merkle_log.proofs.Lasts.{node_rows}
+use Rattle.merkle_log.proofs.Lasts.{Node}
 use Rattle.merkle_log.proofs.Merging.{MadeOf, Merging}
 use Rattle.merkle_log.proofs.frontier.merge.Given as goal
 
@@ -17,10 +17,10 @@ invariant-odd g l =
       within : l.left ≤ length l.peaks;
       made : MadeOf hash l.fn.size peaks (numbers l.fn.digest) l.count l.left (numbers l.last);
       same : count_ones (l.count + 1) ≡ count_ones (l.fn.size + 1);
-      at : (empty : Digest) (digests : List Digest) → IsFrontier hash digests l.fn.size peaks → Merging hash empty peaks
+      at : (empty : Digest) (row : List Node) → length row ≡ l.fn.size → HasPeaks hash row peaks
+          → Merging hash empty peaks
           l.count l.left (numbers l.last)
-          (frontier (joined hash) (Ok empty) (length (digests ++ (numbers l.fn.digest ∷ [])))
-          (node_rows (digests ++ (numbers l.fn.digest ∷ []))));
+          (frontier (joined hash) (Ok empty) (suc l.fn.size) (row ++ (Ok (numbers l.fn.digest) ∷ [])));
     }
 
 abbrev pub decreases-odd : goal.decreases-odd
