@@ -2,7 +2,7 @@
 import ctypes
 import os
 from array import array
-from typing import Any, Sequence, Tuple
+from typing import Any, Optional, Sequence, Tuple, Union
 
 DIGEST_BYTES = 32
 
@@ -12,6 +12,9 @@ _bytes = ctypes.c_char_p
 _hashing = ctypes.c_uint32
 # leaves one behind the other, and their lengths
 _leaves = (_bytes, _size, _sizes, _size)
+_Flat = Tuple[bytes, int, "ctypes.Array[ctypes.c_size_t]", int]
+# leaves that are handed over: a sequence, or a buffer of leaves of one length
+_Leaves = Union[Sequence[bytes], bytes, bytearray, memoryview]
 # a wheel has the library beside this file
 _beside = os.path.join(os.path.dirname(os.path.abspath(__file__)), "libpaxidore.so.1")
 _found = os.environ.get("PAXIDORE_LIBRARY", _beside if os.path.exists(_beside) else "libpaxidore.so.1")
@@ -192,7 +195,38 @@ def _words(name: str, numbers: Sequence[int]) -> Tuple["ctypes.Array[ctypes.c_si
     return (_size * len(words))(*words), len(words)
 
 
-def _flat(leaves: Tuple[bytes, ...]) -> Tuple[bytes, int, "ctypes.Array[ctypes.c_size_t]", int]:
+class _Given:
+    """Leaves one behind the other, as calls take them: of a sequence of bytes, or of a buffer where ``length`` is that of each."""
+
+    __slots__ = ("_all", "_length", "count")
+
+    def __init__(self, leaves: Any, length: Optional[int] = None) -> None:
+        self._all: Any = tuple(leaves) if length is None else _copied(leaves)
+        self._length = 0 if length is None else _word("length", length)
+        self.count = len(self._all)
+        if length is not None:
+            if self._length == 0 or self.count % self._length:
+                raise ValueError("a buffer of %d bytes has no whole leaves of %d" % (self.count, self._length))
+            self.count //= self._length
+
+    def flat(self, start: int, end: int) -> _Flat:
+        """Those from ``start`` on up to ``end``."""
+        if self._length == 0:
+            return _flat(self._all[start:end])
+        joined = self._all[start * self._length : end * self._length]
+        lengths = array("Q", (self._length,)) * (end - start)
+        return joined, len(joined), (_size * (end - start)).from_buffer(lengths), end - start
+
+    def all(self) -> _Flat:
+        return self.flat(0, self.count)
+
+
+def _copied(buffer: Any) -> bytes:
+    # another thread may write any buffer but bytes while a call reads it
+    return buffer if type(buffer) is bytes else memoryview(buffer).tobytes()
+
+
+def _flat(leaves: Tuple[bytes, ...]) -> _Flat:
     # one look at all types and one at all lengths, which costs a third of a call for each leaf
     if not set(map(type, leaves)) <= {bytes}:
         for leaf in leaves:

@@ -8,9 +8,7 @@ import time
 import weakref
 from typing import Any, Callable, List, Optional, Tuple
 
-from ._library import MORE, NoLog, _bytes, _call, _leaves, _refusal, _size, _sizes
-
-_Flat = Tuple[bytes, int, "ctypes.Array[ctypes.c_size_t]", int]
+from ._library import MORE, NoLog, _bytes, _call, _Flat, _leaves, _refusal, _size, _sizes
 
 # how many pieces and steps are enough, as the header has them
 _PIECES = 384

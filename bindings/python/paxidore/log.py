@@ -2,7 +2,7 @@
 import ctypes
 import itertools
 import os
-from typing import Callable, Iterable, Optional, Sequence
+from typing import Callable, Iterable, Optional
 
 from ._library import (
     DIGEST_BYTES,
@@ -10,14 +10,16 @@ from ._library import (
     _call,
     _digest,
     _exact,
-    _flat,
+    _Flat,
+    _Given,
+    _Leaves,
     _leaves,
     _refusal,
     _size,
     _sizes,
     _word,
 )
-from ._log_file import _File, _Flat
+from ._log_file import _File
 from ._turn import Turn
 
 _log_kept = _call("log_kept", _size, _size)
@@ -170,13 +172,14 @@ class Log:
     def __reduce__(self) -> str:
         raise TypeError("a Log is neither copied nor pickled")
 
-    def append(self, entries: Sequence[bytes]) -> int:
-        """Appends entries, whole or not at all, and returns the new size. In a file they are synced then.
+    def append(self, entries: _Leaves, *, length: "Optional[int]" = None) -> int:
+        """Appends entries, whole or not at all, and returns the new size. In a file they are synced then. With ``length`` they stand one
+        behind the other in a buffer, and each has so many bytes.
 
         Raises ``SizeError`` for a size of 2^63 and above, ``OutOfMemory``; ``OSError``, after which a log in a file has the entries or
         has them not: where it has to be opened again, each call says so.
         """
-        return self._turn.run(self._append, _flat(tuple(entries)))
+        return self._turn.run(self._append, _Given(entries, length).all())
 
     def _append(self, flat: _Flat) -> int:
         return self._open().append(flat)

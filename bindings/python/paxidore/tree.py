@@ -3,7 +3,7 @@ import ctypes
 import mmap
 import os
 from types import TracebackType
-from typing import Any, Callable, Optional, Sequence, Tuple, Type, Union
+from typing import Any, Callable, Optional, Sequence, Type, Union
 
 from ._library import (
     DIGEST_BYTES,
@@ -11,7 +11,8 @@ from ._library import (
     _bytes,
     _call,
     _exact,
-    _flat,
+    _Given,
+    _Leaves,
     _hashing,
     _multi_path_room,
     _path_digests,
@@ -79,13 +80,16 @@ class Tree:
     @classmethod
     def build(
         cls,
-        leaves: Sequence[bytes],
+        leaves: _Leaves,
         path: Optional[_Path] = None,
         *,
+        length: Optional[int] = None,
         trees: Trees = rfc6962,
         progress: Optional[Callable[[int], object]] = None,
     ) -> "Tree":
         """The tree above the leaves, in memory of its own, or in a file that is made at ``path``.
+
+        With ``length``, here and in ``set_many``, the leaves stand one behind the other in a buffer, and each has so many bytes.
 
         ``progress`` is called after each 1,024 leaves, and at the end, with the count of leaves that are done. What it raises ends
         the build, and the file is removed.
@@ -93,17 +97,17 @@ class Tree:
         Raises ``SizeError``, ``FileExistsError`` where there is a file, ``OSError``, ``MemoryError``. A crash can leave a file that
         ``check`` does not find to be a tree.
         """
-        given = tuple(leaves)
-        length = _length(_leaf_count(_length(len(given))))
+        given = _Given(leaves, length)
+        room = _length(_leaf_count(_length(given.count)))
         if path is None:
-            tree = cls(bytearray(length), trees=trees)
+            tree = cls(bytearray(room), trees=trees)
             tree._build(given, progress)
             return tree
         file = os.open(path, os.O_RDWR | os.O_CREAT | os.O_EXCL | os.O_CLOEXEC, 0o666)
         try:
             try:
                 # a write to a page for which the disk has no room would end the process
-                os.posix_fallocate(file, 0, length)
+                os.posix_fallocate(file, 0, room)
                 tree = cls._mapped(file, trees)
             finally:
                 os.close(file)
@@ -174,12 +178,13 @@ class Tree:
         """Changes a leaf: writes its digest and those above it, from the lowest up. Raises ``IndexBeyondSize``."""
         self._done(_set, given=(self._trees._hashing, _word("index", index), _exact("leaf", leaf), len(leaf)))
 
-    def set_many(self, indexes: Sequence[int], leaves: Sequence[bytes]) -> None:
+    def set_many(self, indexes: Sequence[int], leaves: _Leaves, *, length: Optional[int] = None) -> None:
         """Changes leaves, one for each index, one after the other. Where the indexes rise, each digest above them is hashed once.
 
         Raises ``CountError``, ``IndexBeyondSize``.
         """
-        self._done(_set_many, given=(self._trees._hashing, *_words("an index", indexes), *_flat(tuple(leaves))))
+        given = _Given(leaves, length)
+        self._done(_set_many, given=(self._trees._hashing, *_words("an index", indexes), *given.all()))
 
     def check(self) -> bool:
         """Whether each digest above those of the leaves is the hash of the two below it. It hashes as much as ``rebuild``."""
@@ -207,15 +212,16 @@ class Tree:
         if self._map is not None:
             self._map.close()
 
-    def _build(self, leaves: Tuple[bytes, ...], progress: Optional[Callable[[int], object]]) -> None:
+    def _build(self, leaves: _Given, progress: Optional[Callable[[int], object]]) -> None:
         try:
             if progress is None:
-                self._done(_build, given=(self._trees._hashing, *_flat(leaves)))
+                self._done(_build, given=(self._trees._hashing, *leaves.all()))
                 return
             # each step hashes the places above its leaves; those that later steps lie under are hashed again by these
-            for start in range(0, len(leaves), _STEP):
-                end = min(start + _STEP, len(leaves))
-                self.set_many(range(start, end), leaves[start:end])
+            for start in range(0, leaves.count, _STEP):
+                end = min(start + _STEP, leaves.count)
+                step = (*_words("an index", range(start, end)), *leaves.flat(start, end))
+                self._done(_set_many, given=(self._trees._hashing, *step))
                 progress(end)
         except BaseException:
             self.close()

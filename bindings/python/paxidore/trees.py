@@ -1,6 +1,6 @@
 """Trees of leaves that are handed over. ``paxidore.sha256`` and ``paxidore.rfc6962`` are of this module."""
 import ctypes
-from typing import Sequence
+from typing import Optional, Sequence
 
 from ._library import (
     DIGEST_BYTES,
@@ -8,8 +8,9 @@ from ._library import (
     _call,
     _digest,
     _exact,
-    _flat,
+    _Given,
     _hashing,
+    _Leaves,
     _leaves,
     _multi_path_room,
     _path_digests,
@@ -64,7 +65,7 @@ class Trees:
             _digest(root),
             _word("size", size),
             *_words("an index", indexes),
-            *_flat(tuple(leaves)),
+            *_Given(leaves).all(),
             _exact("proof", proof),
             len(proof),
         )
@@ -72,17 +73,21 @@ class Trees:
             raise _refusal(answer)
         return answer == 0
 
-    def root(self, leaves: Sequence[bytes]) -> bytes:
-        """The root of the tree above the leaves. Raises ``SizeError``, ``OutOfMemory``."""
+    def root(self, leaves: _Leaves, *, length: Optional[int] = None) -> bytes:
+        """The root of the tree above the leaves. Raises ``SizeError``, ``OutOfMemory``.
+
+        With ``length``, here and below, the leaves stand one behind the other in a buffer, as ``bytes`` or an array, and each has so many
+        bytes: ``ValueError`` where the buffer has no whole leaves.
+        """
         root = ctypes.create_string_buffer(DIGEST_BYTES)
-        answer: int = _root(root, self._hashing, *_flat(tuple(leaves)))
+        answer: int = _root(root, self._hashing, *_Given(leaves, length).all())
         if answer != 0:
             raise _refusal(answer)
         return root.raw
 
-    def path(self, leaves: Sequence[bytes], index: int) -> bytes:
+    def path(self, leaves: _Leaves, index: int, *, length: Optional[int] = None) -> bytes:
         """The bytes of the path of an index. Raises ``SizeError``, ``IndexBeyondSize``, ``OutOfMemory``."""
-        flat, count = _flat(tuple(leaves)), _size()
+        flat, count = _Given(leaves, length).all(), _size()
         # as many as the path has
         room = 16 + _path_digests(flat[3])
         path = ctypes.create_string_buffer(room)
@@ -91,12 +96,12 @@ class Trees:
             raise _refusal(answer)
         return ctypes.string_at(path, count.value)
 
-    def multi_path(self, leaves: Sequence[bytes], indexes: Sequence[int]) -> bytes:
+    def multi_path(self, leaves: _Leaves, indexes: Sequence[int], *, length: Optional[int] = None) -> bytes:
         """The bytes of the multi-proof of some indexes, in any order; it shows them rising and each once.
 
         Raises as ``path`` does.
         """
-        flat, given, count = _flat(tuple(leaves)), _words("an index", indexes), _size()
+        flat, given, count = _Given(leaves, length).all(), _words("an index", indexes), _size()
         room = _multi_path_room(flat[3], given[1])
         proof = ctypes.create_string_buffer(room)
         answer: int = _multi_path(proof, room, ctypes.byref(count), self._hashing, *flat, *given)

@@ -1,4 +1,5 @@
 """Every call, against trees that hashlib makes."""
+import array
 import copy
 import hashlib
 import os
@@ -259,6 +260,39 @@ class Calls(unittest.TestCase):
             self.assertEqual(trees.path(Changing(leaves), 2), path)
             self.assertEqual(trees.multi_path(Changing(leaves), Changing([3, 0])), proof)
             self.assertTrue(trees.multi_verify(root, 4, Changing([0, 3]), Changing([b"", b"ccc"]), proof))
+
+    def test_leaves_of_one_length(self):
+        leaves = [bytes([n]) * 32 for n in range(8)]
+        joined = b"".join(leaves)
+        for trees, _, _ in HASHINGS:
+            root, path, proof = trees.root(leaves), trees.path(leaves, 5), trees.multi_path(leaves, [1, 6])
+            for buffer in (joined, bytearray(joined), memoryview(joined), array.array("Q", joined)):
+                self.assertEqual(trees.root(buffer, length=32), root)
+                self.assertEqual(trees.path(buffer, 5, length=32), path)
+                self.assertEqual(trees.multi_path(buffer, [1, 6], length=32), proof)
+                steps = []
+                self.assertEqual(paxidore.Tree.build(buffer, length=32, trees=trees).root, root)
+                tree = paxidore.Tree.build(buffer, length=32, trees=trees, progress=steps.append)
+                self.assertEqual((tree.root, steps), (root, [8]))
+                tree.set_many([0, 1], leaves[1] + leaves[0], length=32)
+                self.assertEqual(tree.root, trees.root([leaves[1], leaves[0]] + leaves[2:]))
+            with self.assertRaises(paxidore.SizeError):
+                trees.root(b"", length=32)
+            for buffer, length, kind in (
+                (joined, 0, ValueError),
+                (joined, 48, ValueError),
+                (joined, -1, OverflowError),
+                (joined, 1 << 64, OverflowError),
+                (joined, 32.0, TypeError),
+                ("text", 2, TypeError),
+                (leaves, 32, TypeError),
+            ):
+                with self.assertRaises(kind):
+                    trees.root(buffer, length=length)
+        log, other = paxidore.Log(), paxidore.Log()
+        self.assertEqual(log.append(joined, length=32), other.append(leaves))
+        self.assertEqual(log.root(), other.root())
+        self.assertEqual(log.append(b"", length=32), 8)
 
     def test_only_int_is_taken(self):
         log, zeros = paxidore.Log, bytes(32)
