@@ -3,7 +3,7 @@ use Rattle.std.proofs.Common.{◌≡◌, inl, inr, ⊎_elim, ℕ, ◌+◌, ◌-�
 use Rattle.std.specs.Prelude.{replicate}
 use Rattle.std.proofs.lemmas.List.{drop-append-le, drop-drop, drop_at, length-append, length-drop, length-replicate, take-append-le}
 use Rattle.log_file.specs.LogFile.{title, written}
-use Rattle.log_store.specs.Disk.{AreApart, Elapses, Leaves, LeavesMore, Torn}
+use Rattle.log_store.specs.Disk.{AreApart, Leaves, LeavesMore, Torn}
 use Rattle.log_store.specs.Sectors.{laid, laid_head, part_at, title_in, HasSectors, IsFresh, IsSpread, LiesAt, Through}
 use Rattle.log_store.specs.declared.sectors.Layout.{Layout}
 use Rattle.log_store.specs.declared.sectors.Layout.TheVariants.{Apart, Dense, FirstAlone, SecondAlone}
@@ -73,16 +73,6 @@ crash-any layout at bytes place own old new lies crash left now =
       subst (Torn at bytes (laid layout from.0)) (sym now.2) (torn-any layout at bytes place own from.0 now.0 lies
           from.2),
     )
-
--- Time goes on.
-pub time-any : (layout : Layout) (before now : ℕ) (past since : ℕ → List ℕ → Type 0) (may_leave : List ℕ → Type 0)
-    → Elapses before now past since may_leave
-    → Elapses before now (λ t. Through layout (past t)) (λ t. Through layout (since t)) (Through layout may_leave)
-time-any layout before now past since may_leave time = record {
-  later = time.later;
-  nothing_else = λ t left le from. ⊎_elim (λ old. inl (from.0, old, from.2)) (λ new. inr (from.0, new, from.2))
-      (time.nothing_else t from.0 le from.1);
-}
 
 -- What is fresh is durable behind a sync.
 pub durable-any : (layout : Layout) (at : ℕ) (bytes : List ℕ) (fresh : ℕ → List ℕ → Type 0)

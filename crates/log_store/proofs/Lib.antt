@@ -9,8 +9,11 @@ pub mod LaidWrites
 pub mod Laid
 pub mod Losing
 pub mod Lying
+pub mod Surviving
+pub mod Healed
 pub mod Sectoring
 pub mod Mixing
+pub mod Spares
 pub mod Tearing
 pub mod Stages
 pub mod Reading

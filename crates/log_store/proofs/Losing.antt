@@ -35,16 +35,16 @@ module _ (file : List ℕ) where
   split : laid Apart file ≡ (title_in file ++ part_at 32 32 file) ++ (part_at 4128 32 file ++ drop 8192 file)
   split = ap (λ l. l ++ rest) (sym (append_assoc top first second)) ∙ append_assoc (top ++ first) second rest
 
-  front : take 64 (laid Apart file) ≡ title_in file ++ part_at 32 32 file
+  pub front : take 64 (laid Apart file) ≡ title_in file ++ part_at 32 32 file
   front = ap (take 64) split ∙ take_at (top ++ first) (second ++ rest) 64 front-long
 
-  behind : drop 64 (laid Apart file) ≡ part_at 4128 32 file ++ drop 8192 file
+  pub behind : drop 64 (laid Apart file) ≡ part_at 4128 32 file ++ drop 8192 file
   behind = ap (drop 64) split ∙ drop_at (top ++ first) (second ++ rest) 64 front-long
 
   digests : drop 96 (laid Apart file) ≡ drop 8192 file
   digests = drop_at (laid_head Apart file) rest 96 (length-head file)
 
-  begin : take 32 (laid Apart file) ≡ title_in file
+  pub begin : take 32 (laid Apart file) ≡ title_in file
   begin = ap (take 32) (append_assoc top (first ++ second) rest)
       ∙ take_at top ((first ++ second) ++ rest) 32 (length-title_in file)
 
@@ -65,7 +65,7 @@ module _ (file : List ℕ) where
       (known leaves (laid Apart file) log).head.begins
 
 -- zeros are no title
-untitled : replicate 32 0 ≡ title → ⊥
+pub untitled : replicate 32 0 ≡ title → ⊥
 untitled is = absurd (omega (arith, ap (λ l. get_or l 0 0) is))
 
 -- It begins so on the disk.

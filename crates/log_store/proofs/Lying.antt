@@ -1,23 +1,15 @@
 -- How a file lies, as its first two sectors say.
-use Rattle.std.proofs.Common.{◌≡◌, ◌<◌, ◌≤◌, inl, inr, ℕ, Bool, true, false, if◌then◌else◌, List, length, take, drop, refl, ap, sym, ◌∙◌, arith}
-use Rattle.std.specs.Prelude.{◌||◌, nat_lt}
+use Rattle.std.proofs.Common.{◌≡◌, ◌<◌, ◌≤◌, inl, inr, ℕ, Bool, true, false, List, length, take, drop, refl, ap, sym, ◌∙◌, arith}
+use Rattle.std.specs.Prelude.{◌||◌}
 use Rattle.std.specs.Str.{bytes_eq}
 use Rattle.std.proofs.lemmas.Bool.{le-ltb, lt-ltb}
 use Rattle.ark_paths.specs.Pair.{Digest}
 use Rattle.log_file.specs.LogFile.{first_word, slot_front, title, IsLogFile}
 use Rattle.log_file.proofs.Heads.{eq_bytes, same_bytes}
-use Rattle.log_store.specs.Sectors.{is_sector, is_whole, laid, layout_by, layout_in, part_at, sector_title, HasSecond}
+use Rattle.log_store.specs.Sectors.{is_sector, is_whole, laid, layout_in, part_at, sector_title, HasSecond}
 use Rattle.log_store.specs.declared.sectors.Layout.TheVariants.{Apart, Dense}
 use Rattle.log_store.proofs.Laying.{part-whole}
 use Rattle.log_store.proofs.Losing.{first-title, log-titled, other-title, second-slot, second-title}
-
-pub by-parts : (count : ℕ) (first second file : List ℕ) → count ≡ length file → first ≡ part_at 0 64 file
-    → second ≡ part_at 4096 64 file
-    → (if nat_lt count 8192 then Dense else layout_by first second) ≡ layout_in file
-by-parts count first second file is one two =
-    ap (λ n. if nat_lt n 8192 then Dense else layout_by first second) is
-    ∙ ap (λ l. if nat_lt (length file) 8192 then Dense else layout_by l second) one
-    ∙ ap (λ l. if nat_lt (length file) 8192 then Dense else layout_by (part_at 0 64 file) l) two
 
 -- how the first sector begins
 pub start-title : (file : List ℕ) → 8192 ≤ length file → take 32 (part_at 0 64 file) ≡ take 32 file

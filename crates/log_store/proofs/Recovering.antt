@@ -1,5 +1,5 @@
 -- The file that is made of what is sound of another.
-use Rattle.std.proofs.Common.{◌≡◌, ◌⊎◌, ℕ, ◌+◌, ◌*◌, ◌<◌, ◌≤◌, ◌^◌, Bool, true, false, List, [], ◌++◌, length, take, drop, get_or, replicate, Some, Ok, refl, ap, sym, ◌∙◌, subst, append_assoc, ⊎_elim, inl, inr, arith}
+use Rattle.std.proofs.Common.{◌≡◌, ℕ, ◌+◌, ◌*◌, ◌<◌, ◌≤◌, ◌^◌, Bool, true, false, List, [], ◌++◌, length, take, drop, get_or, replicate, Some, Ok, refl, ap, sym, ◌∙◌, subst, append_assoc, ⊎_elim, inl, inr, arith}
 use Rattle.std.proofs.lemmas.Bool.{le-ltb}
 use Rattle.std.proofs.lemmas.List.{append-nil, drop-append-le, drop-drop, drop_all, drop_at, get_or-replicate, get_or-take, length-append, length-drop, length-replicate, length-take-le, take-take, take_all, take_at}
 use Rattle.std.proofs.Math.Seq.{take-add}

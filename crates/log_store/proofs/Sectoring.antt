@@ -50,7 +50,7 @@ part-none head file none = rw (none) (record { short = omega arith; bytes = λ n
 
 -- ---- two sectors
 
-rest-long : length sector_rest ≡ 4032
+pub rest-long : length sector_rest ≡ 4032
 unfolding sector_rest
 rest-long = length-replicate {A = ℕ} 4032 0
 

@@ -15,9 +15,10 @@ use Rattle.log_file.proofs.Files.{cut-head, cut-holds, cut-uses, known, sizes-sa
 use Rattle.log_file.proofs.Heads.{length-front, length-slot, length-statement, HasHead, Uses}
 use Rattle.log_file.proofs.Pieces.{piece-before, piece-written}
 use Rattle.log_store.specs.Disk.{After, IsMixed, Torn, TornTwice}
-use Rattle.log_store.specs.Store.{AreDurableBehind, BeginsAs, HasDigestsOf, IsDurable, IsDurableBehind, IsMidAppend, IsSettled}
+use Rattle.log_store.specs.Store.{AreDurableBehind, BeginsAs, HasDigestsOf, HasSpare, IsDurable, IsDurableBehind, IsMidAppend, IsSettled}
 use Rattle.log_store.proofs.Mixing.{by_slot, digests-begins, digests-cut, digests-put, digests-then, mixed-front, newly, slot-within, slots-apart, slots-far, told, unmixed, IsSaid}
-use Rattle.log_store.proofs.Tearing.{both-settled, both-written, crash-behind, crash-both, crash-slot, digests-written, end-written, first-inside, longer-written, more-inside, slot-written, Growing}
+use Rattle.log_store.proofs.Spares.{spare-log}
+use Rattle.log_store.proofs.Tearing.{both-settled, both-written, crash-behind, crash-both, crash-slot, digests-written, end-written, first-inside, longer-written, more-inside, slot-written, spare-both, spare-slot, Growing}
 use Rattle.log_store.proofs.Writes.{begins-written, cut-beside, piece-beside, piece-of, written-alike}
 
 -- ---- a file that begins as that of a log
@@ -44,6 +45,7 @@ pub mid-begins : (leaves more : List Digest) (file left : List ℕ) → IsLogFil
 mid-begins leaves more file left log is = record {
   log = inl (log-begins leaves file left log is);
   digests = digests-begins (length leaves) file left is;
+  lost = inl (spare-log leaves left (log-begins leaves file left log is));
 }
 
 -- What grows the log of one file grows that of the other.
@@ -133,6 +135,7 @@ module _ {leaves more : List Digest} {file bytes : List ℕ} {second : Bool}
             (digests-then n file before mid (digests-begins n file before (begins before now))
             (digests-begins n before mid one.cut.before))
             (digests-cut n (next_slot second + 20) 12 mid left (omega (arith, slot-within second)) two);
+        lost = inl (spare-log leaves left (end-log left (before, now, (mid, one, two))));
       }
 
   -- ---- with the root of the log with the new leaves
@@ -272,9 +275,14 @@ module _ {leaves more : List Digest} {file bytes : List ℕ} {second : Bool}
         (drop 96 (end-written grow root root_is)) (omega (arith, less)) digests)
 
     late : (left : List ℕ) → IsSaid leaves more left → ((which : Bool) → Mixed-at left which)
-        → HasDigestsOf new (end-written grow root root_is) left → IsLate grow root root_is left
-    late left said mixed digests = record {
-      mid = record { log = told leaves more file left mixed said; digests = fewer-digests left digests };
+        → HasDigestsOf new (end-written grow root root_is) left
+        → HasSpare leaves left ⊎ HasSpare (leaves ++ more) left → IsLate grow root root_is left
+    late left said mixed digests lost = record {
+      mid = record {
+        log = told leaves more file left mixed said;
+        digests = fewer-digests left digests;
+        lost = lost;
+      };
       digests = digests;
     }
 
@@ -301,6 +309,7 @@ module _ {leaves more : List Digest} {file bytes : List ℕ} {second : Bool}
         (digests-begins new (end-written grow root root_is) whole (end-alike end.before end.now))
         (digests-cut new (next_slot second) (length (slot_front new)) whole left
         (omega (arith, slot-within second, length-front new)) there.cut))
+        (inl (spare-slot own root root_is left (rw (length-front new) at there.cut)))
 
     pub slot-whole : (left : List ℕ) → After (λ old new. new ≡ written old (next_slot second)
         (slot_front (length (leaves ++ more)))) HasEnd left → HasSlot left
@@ -335,6 +344,7 @@ module _ {leaves more : List Digest} {file bytes : List ℕ} {second : Bool}
         (omega (arith, slot-within second, length-front new)) (slot-in own)))
         (digests-cut new (next_slot (not second)) (length (slot new root)) whole left
         (omega (arith, slot-within (not second), length-slot new root)) there.cut))
+        (inr (spare-both own root root_is left (rw (length-slot new root) at there.cut)))
 
     -- all was written
     pub both-whole : (left : List ℕ) → After (λ old new. new ≡ written old (next_slot (not second))

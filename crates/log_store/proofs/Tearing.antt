@@ -15,8 +15,9 @@ use Rattle.log_file.proofs.Files.{cut-head, cut-holds, cut-uses, holds-slot, kee
 use Rattle.log_file.proofs.Heads.{fits-size, fits-stated, head-kept, is_headed, length-front, length-slot, length-statement, size-begins, slot-begin, slot-end, slot-fits, uses-kept, uses-turned, HasHead, Uses}
 use Rattle.log_file.proofs.Pieces.{piece-written}
 use Rattle.log_store.specs.Disk.{Cut}
-use Rattle.log_store.specs.Store.{IsGrowth, IsSettled}
+use Rattle.log_store.specs.Store.{HasSpare, IsGrowth, IsSettled}
 use Rattle.log_store.proofs.Mixing.{IsSaid}
+use Rattle.log_store.proofs.Spares.{without-used}
 
 -- What is written makes a file no shorter.
 pub longer-written : (file bytes : List ℕ) (at : ℕ) → at ≤ length file → length file ≤ length (written file at bytes)
@@ -314,6 +315,32 @@ module _ {leaves more : List Digest} {file bytes : List ℕ} {second : Bool} (gr
           ))
         ])
 
+    -- Whatever a crash leaves of a slot, the other one has its log.
+    pub spare-slot : (left : List ℕ) → Cut (next_slot second) 20 end-written left → HasSpare leaves left
+    spare-slot left torn =
+        let piece = torn-piece free 20 end-written left (omega (arith, end-inside)) torn in
+        let part = piece.0 ++ statement new root in
+        let long = front-long piece.0 piece.1 in
+        let is : left ≡ written end-written free part = piece.2 ∙ front-is piece.0 piece.1 in
+        subst (HasSpare leaves) (sym is) (
+          second,
+          without-used leaves old_root (written end-written free part) second
+              (uses-kept end-written part size old_root second end-uses long)
+              (holds-slot leaves old_root end-written part second end-uses.long long end-holds),
+        )
+
+    pub spare-both : (left : List ℕ) → Cut (next_slot (not second)) 32 slot-written left
+        → HasSpare (leaves ++ more) left
+    spare-both left torn =
+        let piece = torn-piece (next_slot (not second)) 32 slot-written left
+        (omega (arith, slot-inside (not second), slot-uses.long)) torn in
+        subst (HasSpare (leaves ++ more)) (sym piece.2) (
+          not second,
+          without-used (leaves ++ more) root (written slot-written (next_slot (not second)) piece.0)
+              (not second) (uses-kept slot-written piece.0 new root (not second) slot-uses piece.1)
+              (holds-slot (leaves ++ more) root slot-written piece.0 (not second) slot-uses.long piece.1 slot-holds),
+        )
+
     -- where is written
     pub second-inside : next_slot second ≤ length end-written
     second-inside = omega (arith, slot-inside second, end-uses.long)
@@ -329,17 +356,7 @@ module _ {leaves more : List Digest} {file bytes : List ℕ} {second : Bool} (gr
             | inl same ↦ same
             | inr larger ↦ absurd (no_larger larger.0 larger.1 larger.2)
           ];
-      lost = λ other part long. elim (slot-torn (leaves ++ more) root both-written part other (both-uses other) long
-          both-holds) [
-            | inl same ↦ inl same
-            | inr larger ↦ inr (
-              larger.0,
-              larger.3.0,
-              is_headed _ larger.0 larger.3.0 larger.3.1,
-              larger.2,
-              λ same. omega (arith, larger.2, same),
-            )
-          ];
+      lost = λ other. without-used (leaves ++ more) root both-written other (both-uses other) both-holds;
     }
       where
         some_of : Option ℕ → ℕ

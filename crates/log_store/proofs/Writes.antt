@@ -2,7 +2,8 @@
 use Rattle.std.proofs.Common.{◌≡◌, ◌⊎◌, inl, inr, ⊎_elim, ℕ, ◌+◌, ◌-◌, ◌<◌, ◌≤◌, List, ◌++◌, length, take, drop, get_or, refl, ap, sym, ◌∙◌, append_assoc, arith}
 use Rattle.std.proofs.Math.Nat.{le-max_left}
 use Rattle.std.proofs.Math.Seq.{take-add}
-use Rattle.std.proofs.lemmas.List.{drop-drop, drop-take, ext_get_or, get_or-take, length-drop, length-take-le, take-append-drop, take-take}
+use Rattle.std.proofs.lemmas.Bool.{cases_lt}
+use Rattle.std.proofs.lemmas.List.{drop-drop, drop-take, ext_get_or, get_or-take, length-drop, length-take-le, take-append-drop, take-take, take_all}
 use Rattle.log_file.specs.LogFile.{written}
 use Rattle.log_file.proofs.Pieces.{behind-written, piece-before, piece-written}
 use Rattle.log_store.specs.Disk.{Cut, Torn}
@@ -41,6 +42,17 @@ piece-of m at n a b le is =
     sym (take-take n (m - at) (drop at a) le') ∙ ap (take n) (sym (drop-take at (m - at) a)
     ∙ ap (λ k. drop at (take k a)) two ∙ ap (drop at) is ∙ ap (λ k. drop at (take k b)) (sym two)
     ∙ drop-take at (m - at) b) ∙ take-take n (m - at) (drop at b) le'
+
+-- A file that begins as another of so many bytes has them.
+pub long-as : (m : ℕ) (file before : List ℕ) → m ≤ length file → take m before ≡ take m file → m ≤ length before
+long-as m file before long is = elim (cases_lt (length before) m) [
+  | inl short ↦ absurd (omega (
+    arith,
+    ap length (sym (take_all m before (omega arith)) ∙ is),
+    length-take-le m file (omega arith),
+  ))
+  | inr ge ↦ omega arith
+]
 
 -- What stands behind what was cut is as it was.
 pub behind-cut : (at n to m : ℕ) (old left : List ℕ) → to + m ≤ at → Cut to m old left

@@ -2,6 +2,7 @@ pub mod Disk
 pub mod Found
 pub mod Store
 pub mod Sectors
+pub mod Healing
 pub mod Refused
 pub mod Overlay
 pub mod Spots

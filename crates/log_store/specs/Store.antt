@@ -79,11 +79,23 @@ abbrev pub IsBeforeOrAfter : List Digest → List Digest → List ℕ → List �
 IsBeforeOrAfter leaves more file left = IsLogFile leaves left ⊎ IsLogFile (leaves ++ more) left
     ⊎ IsForged (length leaves) (length (leaves ++ more)) file left
 
+-- Whatever bytes stand in the place of this slot, the file is that of the log, or they say a larger size.
+abbrev pub IsWithout : List Digest → Bool → List ℕ → Type 0
+IsWithout leaves second file = (part : List ℕ) → length part ≡ 32
+    → IsLogFile leaves (written file (next_slot second) part)
+    ⊎ SaysLarger (length leaves) (length leaves) (written file (next_slot second) part)
+
+-- One of the two slots may be lost: the other one has the log.
+abbrev pub HasSpare : List Digest → List ℕ → Type 0
+HasSpare leaves file = (second : Bool) × IsWithout leaves second file
+
 -- An append to a file may be under way: the digests of the log are there, and the file is that of the log as it was, or
 -- with the new leaves; or a slot is forged.
 pub record IsMidAppend (leaves more : List Digest) (file left : List ℕ) : Type 0 where
   pub log : IsBeforeOrAfter leaves more file left
   pub digests : HasDigestsOf (length leaves) file left
+  -- the slot that is being written may be lost: the other one has the log as it was, or with the new leaves
+  pub lost : HasSpare leaves left ⊎ HasSpare (leaves ++ more) left
 
 -- The file is that of a log, whose second slot takes the next size or not, and the bytes are those of the digests that
 -- more leaves add to it.
@@ -97,9 +109,7 @@ pub record IsGrowth (leaves more : List Digest) (file bytes : List ℕ) (second 
 -- The file is that of a log, and stays it whatever bytes stand in the place of one of its two slots.
 pub record IsSettled (leaves : List Digest) (file : List ℕ) : Type 0 where
   pub log : IsLogFile leaves file
-  pub lost : (second : Bool) (part : List ℕ) → length part ≡ 32
-      → IsLogFile leaves (written file (next_slot second) part)
-      ⊎ SaysLarger (length leaves) (length leaves) (written file (next_slot second) part)
+  pub lost : (second : Bool) → IsWithout leaves second file
 
 -- A crash leaves what is read, up to where the digests end: the file of the log, also where one of its slots is lost.
 abbrev pub IsDurableLog : List Digest → List ℕ → (List ℕ → Type 0) → Type 0

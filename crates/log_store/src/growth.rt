@@ -127,7 +127,8 @@ pub fn append<D: Disk>(
     ensures gives { let file = D.seen disk.old in D.Obeys disk.new
         → IfOk result (λ new_size. appended_size file (length digests.now) ≡ Ok new_size) }
 
-    // A crash at any moment leaves the log as it was, or with the entries; or a slot is forged.
+    // A crash at any moment leaves the log as it was, or with the entries; or a slot is forged. It may take the slot that is being
+    // written: the other one has the log as it was, or with the entries.
     ensures any_moment { D.Obeys disk.new → (leaves : List Digest)
         → IsLogFile leaves (D.seen disk.old)
         → IsDurable (length leaves) (D.seen disk.old) (D.may_leave disk.old)

@@ -14,8 +14,8 @@ use crate::steps::write_durably;
 use log_file::head::slot_of;
 use sha2::{Digest as _, Sha256};
 
-// A sector with a slot.
-fn sector_of(slot: &[u8; 32]) -> [u8; SECTOR]
+/// Returns a sector with a slot.
+pub fn sector_of(slot: &[u8; 32]) -> [u8; SECTOR]
     ensures { result ≡ sector_of slot.now }
 {
     let mut sector = [0; SECTOR];
@@ -23,8 +23,8 @@ fn sector_of(slot: &[u8; 32]) -> [u8; SECTOR]
     sector
 }
 
-// A sector, twice.
-fn sector_twice(sector: &[u8; SECTOR]) -> [u8; DIGESTS]
+/// Returns a sector, twice.
+pub fn sector_twice(sector: &[u8; SECTOR]) -> [u8; DIGESTS]
     ensures { result ≡ sector.now ++ sector.now }
 {
     let mut sectors = [0; DIGESTS];

@@ -75,8 +75,8 @@ fn layout_by_first(first: &[u8; 64]) -> Layout
     }
 }
 
-// How a sector of a file begins.
-fn sector_start<D: Disk>(disk: &D, place: usize) -> Result<[u8; 64], D::Refusal>
+/// Returns how a sector of a file begins.
+pub fn sector_start<D: Disk>(disk: &D, place: usize) -> Result<[u8; 64], D::Refusal>
     ensures { D.Obeys disk.now → place + 64 ≤ length (D.seen disk.now)
         → IfOk result (λ start. start ≡ part_at place 64 (D.seen disk.now)) }
 {

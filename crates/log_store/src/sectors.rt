@@ -216,8 +216,8 @@ fn own_of(layout: Layout, at: usize, bytes: &[u8]) -> Own
     }
 }
 
-// Returns where the file has both sectors, if its layout has any that is written.
-fn holds_sectors<D: Disk>(disk: &D, layout: Layout) -> Result<(), SectorRefusal<D::Refusal>>
+/// Returns where the file has both sectors, if its layout has any that is written.
+pub fn holds_sectors<D: Disk>(disk: &D, layout: Layout) -> Result<(), SectorRefusal<D::Refusal>>
     ensures { D.Obeys disk.now → OnOk result (HasSectors layout (D.seen disk.now)) }
 {
     match layout {
@@ -292,7 +292,8 @@ impl<D: Disk + Drop> Disk for SectorDisk<D> {
 
     ghost left_since = { λ own since. Through own.layout (D.left_since own.disk since) };
 
-    ghost counts_now = { λ own since left before now. (now.0, D.counts_now own.disk since now.0 before now.1, now.2) };
+    ghost counts_now = { λ own since left before now.
+        (now.0, D.counts_now own.disk since now.0 before now.1, now.2) };
 
     ghost only_now = { λ own left since. (since.0, D.only_now own.disk since.0 since.1, since.2) };
 
@@ -323,8 +324,8 @@ impl<D: Disk + Drop> Disk for SectorDisk<D> {
     }
 }
 
-// Whether both slots lie in one sector.
-fn is_dense(layout: Layout) -> bool
+/// Returns whether both slots lie in one sector.
+pub fn is_dense(layout: Layout) -> bool
     ensures dense { result ≡ true → layout ≡ Dense }
     ensures spread { result ≡ false → IsSpread layout }
 {

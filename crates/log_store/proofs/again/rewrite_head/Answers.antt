@@ -1,6 +1,5 @@
-use Rattle.std.proofs.Common.{◌≡◌, ◌≤◌, ◌*◌, ℕ, List, length, take, inl, inr, refl, ap, sym, ◌∙◌, subst, arith}
-use Rattle.std.proofs.lemmas.Bool.{cases_lt}
-use Rattle.std.proofs.lemmas.List.{length-take-le, take_all}
+use Rattle.std.proofs.Common.{◌≡◌, ◌≤◌, ◌*◌, ℕ, List, length, take, inl, refl, ap, sym, ◌∙◌, subst, arith}
+use Rattle.std.proofs.lemmas.List.{length-take-le}
 use Rattle.merkle_log.specs.Stored.{stored_count}
 use Rattle.merkle_log.proofs.Givens.{known_if_ok}
 use Rattle.log_file.specs.LogFile.{file_end, written}
@@ -11,24 +10,13 @@ use Rattle.log_store.specs.Store.{BeginsAs, HasDigestsOf, TornInTurn}
 use Rattle.log_store.proofs.Mixing.{digests-cut, digests-then}
 use Rattle.log_store.proofs.Runs.{at_end, begun, goes_on, weaker}
 use Rattle.log_store.proofs.Stages.{begins-of}
-use Rattle.log_store.proofs.Writes.{piece-of, torn-itself, torn-not}
+use Rattle.log_store.proofs.Writes.{long-as, piece-of, torn-itself, torn-not}
 use Rattle.log_store.proofs.again.rewrite_head.Goals.{Start}
 use Rattle.log_store.proofs.again.rewrite_head.Goals as goal
 
 -- the head
 part-long : (file part : List ℕ) → 96 ≤ length file → part ≡ take 96 file → length part ≡ 96
 part-long file part long is = ap length is ∙ length-take-le 96 file long
-
--- A file that begins as another of so many bytes has them.
-long-as : (m : ℕ) (file before : List ℕ) → m ≤ length file → take m before ≡ take m file → m ≤ length before
-long-as m file before long is = elim (cases_lt (length before) m) [
-  | inl short ↦ absurd (omega (
-    arith,
-    ap length (sym (take_all m before (omega arith)) ∙ is),
-    length-take-le m file (omega arith),
-  ))
-  | inr ge ↦ omega arith
-]
 
 -- What is left once the head was written is the log.
 written-begins : (size : ℕ) (file part before left : List ℕ) → 96 ≤ length file → part ≡ take 96 file
