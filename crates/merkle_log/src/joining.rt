@@ -14,8 +14,8 @@ use ark_paths::hasher::TreeHasher;
 use std::alloc::Global;
 
 impl<D: DigestItem, T: TreeHasher<D, D>> Frontier<D, T> {
-    /// Returns whether the digests of another frontier can stand behind these: whether the size is a multiple of the largest
-    /// power of two that is at most the other's size, and both are fewer than 2^64.
+    /// Returns whether the digests of another frontier can stand behind these: the size is a multiple of the largest power of
+    /// two that is at most the other's size, and both sizes together are below 2^64.
     pub fn can_join(&self, other: &Frontier<D, T>) -> bool
         ensures { result ≡ true ↔ CanJoin self.now.size other.now.size }
     {
