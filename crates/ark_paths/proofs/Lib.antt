@@ -29,3 +29,8 @@ pub mod StrictIndexes
 pub mod StrictReadings
 pub mod StrictLaws
 pub mod MultiLists
+pub mod GroupClimbs
+pub mod GroupSteps
+pub mod GroupPaths
+pub mod RunLemmas
+pub mod GroupBeside

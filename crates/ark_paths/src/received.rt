@@ -1,14 +1,18 @@
 //! Proofs that come as bytes, in the hands of whoever has a root and the count of leaves alone.
 
-ghost use Rattle.std.specs.Prelude.{◌≡◌, ◌==◌, ◌&&◌, nat_lt, true, Bool, ℕ, [], length, map, get_or, IfOk};
+ghost use Rattle.std.specs.Prelude.{◌≡◌, ◌==◌, ◌&&◌, nat_lt, true, Bool, ℕ, [], length, map, get_or, IfOk, IsOkUnless, Ok};
 ghost use Rattle.std.specs.Str.{bytes_eq};
+ghost use Rattle.ark_base.specs.declared.error.Error.TheVariants.{OutOfMemory};
 ghost use Rattle.ark_base.specs.Outcome.{Answers, AnswersBy};
 ghost use Rattle.ark_paths.specs.Index.{IsTreeSize};
+ghost use Rattle.ark_paths.specs.MultiPath.{multi_verdict};
 ghost use Rattle.ark_paths.specs.Received.{is_fit, received_multi_path, received_multi_verdict, received_path, received_verdict, ShowsLeaf, ShowsLeaves};
 
 use crate::config::{LeafParam, TwoToOneParam};
+use crate::hasher::ConfigHasher;
 use crate::index::{is_tree_size, levels_between};
 use crate::multi_path::MultiPath;
+use crate::multi_path::levels::find_accepted;
 use crate::multi_path::places::first_length;
 use crate::path::Path;
 use crate::views::Values;
@@ -137,10 +141,45 @@ impl<P: Values> MultiPath<P> {
         Ok(proof)
     }
 
+    // Whether all leaves are found to be accepted, a level at a time. `false` says nothing of them. The only error is
+    // `OutOfMemory`.
+    fn is_found(
+        &self,
+        alloc: Global,
+        leaf_parameters: &LeafParam<P>,
+        pair_parameters: &TwoToOneParam<P>,
+        root: &P::InnerDigest,
+        leaves: &[P::Leaf],
+    ) -> Result<bool, Error>
+        ensures sound { let hashes = P.hashes leaf_parameters.now pair_parameters.now in
+            IfOk result (λ found. found ≡ true → multi_verdict hashes.pair
+            (map hashes.leaf leaves.now) (P.multi_way self.now) (P.InnerDigest.numbers root.now)
+            ≡ Ok true) }
+        ensures memory { IsOkUnless result OutOfMemory }
+    {
+        let hasher = ConfigHasher::<P>::new(leaf_parameters, pair_parameters);
+        let found = find_accepted(
+            alloc,
+            &hasher,
+            root,
+            leaves,
+            &self.leaf_siblings_hashes,
+            &self.auth_paths_prefix_lenghts,
+            &self.auth_paths_suffixes,
+            &self.leaf_indexes,
+        );
+        match found {
+            Ok(()) => Ok(true),
+            Err(Error::OutOfMemory) => Err(Error::OutOfMemory),
+            Err(_) => Ok(false),
+        }
+    }
+
     /// Returns whether the bytes of a strict multi-proof show leaves at these indexes, in their order, to whoever has
     /// the root of a tree of `size` leaves alone.
     ///
-    /// Errors: those of `read_strict_at`, then those of `verify`. Leaves past the last index are ignored.
+    /// Errors: those of `read_strict_at`, then those of `verify`. Leaves past the last index are ignored. The couples of
+    /// a level are hashed together; where not all leaves are accepted so, it acts as `verify` from the first leaf on.
     pub fn verify_bytes(
         alloc: Global,
         leaf_parameters: &LeafParam<P>,
@@ -162,6 +201,9 @@ impl<P: Values> MultiPath<P> {
             (P.multi_path_reading bytes.now)) }
     {
         let proof = MultiPath::<P>::read_strict_at(alloc, bytes, size, indexes)?;
+        if proof.is_found(alloc, leaf_parameters, pair_parameters, root, leaves)? {
+            return Ok(true);
+        }
         proof.verify(alloc, leaf_parameters, pair_parameters, root, leaves.iter())
     }
 }

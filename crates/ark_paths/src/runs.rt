@@ -132,3 +132,65 @@ pub fn upper_row<L: DigestItem, D: DigestItem, T: TreeHasher<L, D>>(
     let run = lend_neighbours(alloc, row)?;
     upper_digests(alloc, hasher, &run)
 }
+
+/// Returns the digests of leaves, which are hashed in runs. Errors: as `leaf_digests`.
+pub fn leaves_in_runs<L: DigestItem, D: DigestItem, T: TreeHasher<L, D>>(
+    alloc: Global,
+    hasher: &T,
+    leaves: &[T::Leaf],
+) -> Result<Vec<L>, Error>
+    ensures { AnswersBy (digests_of L.numbers) (all_hashes (T.hashes hasher.now).leaf leaves.now)
+        result }
+{
+    let mut digests = Vec::with_capacity(alloc, leaves.len())?;
+    let mut first = 0;
+    'runs: while first < leaves.len() {
+        let count = (leaves.len() - first).min(RUN);
+        let mut made = leaf_row(alloc, hasher, part_of(leaves, first, count))?;
+        digests.append(&mut made)?;
+        first += count;
+    }
+    Ok(digests)
+}
+
+/// Returns the digests of couples of leaf digests, which are hashed in runs. Errors: as `bottom_digests`.
+pub fn bottom_in_runs<L: DigestItem, D: DigestItem, T: TreeHasher<L, D>>(
+    alloc: Global,
+    hasher: &T,
+    couples: &[(&L, &L)],
+) -> Result<Vec<D>, Error>
+    ensures { AnswersBy (digests_of D.numbers)
+        (all_hashes (of_couple (T.hashes hasher.now).pair.bottom)
+        (lent_couples L.numbers couples.now)) result }
+{
+    let mut digests = Vec::with_capacity(alloc, couples.len())?;
+    let mut first = 0;
+    'runs: while first < couples.len() {
+        let count = (couples.len() - first).min(RUN);
+        let mut made = bottom_digests(alloc, hasher, part_of(couples, first, count))?;
+        digests.append(&mut made)?;
+        first += count;
+    }
+    Ok(digests)
+}
+
+/// Returns the digests of couples of digests above the leaves, which are hashed in runs. Errors: as `upper_digests`.
+pub fn upper_in_runs<L: DigestItem, D: DigestItem, T: TreeHasher<L, D>>(
+    alloc: Global,
+    hasher: &T,
+    couples: &[(&D, &D)],
+) -> Result<Vec<D>, Error>
+    ensures { AnswersBy (digests_of D.numbers)
+        (all_hashes (of_couple (T.hashes hasher.now).pair.upper)
+        (lent_couples D.numbers couples.now)) result }
+{
+    let mut digests = Vec::with_capacity(alloc, couples.len())?;
+    let mut first = 0;
+    'runs: while first < couples.len() {
+        let count = (couples.len() - first).min(RUN);
+        let mut made = upper_digests(alloc, hasher, part_of(couples, first, count))?;
+        digests.append(&mut made)?;
+        first += count;
+    }
+    Ok(digests)
+}

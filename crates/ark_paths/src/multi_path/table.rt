@@ -91,8 +91,8 @@ impl<'a, X> Entries<'a, X> {
     }
 }
 
-// Two digests, left first: the own one stands right where that is so.
-fn in_order<'b, X: Numbered>(is_right: bool, own: &'b X, sibling: &'b X) -> (&'b X, &'b X)
+/// Returns two digests, left first: the own one stands right where that is so.
+pub fn in_order<'b, X: Numbered>(is_right: bool, own: &'b X, sibling: &'b X) -> (&'b X, &'b X)
     ensures { (X.numbers result.0.now, X.numbers result.1.now) ≡ couple is_right (X.numbers own.now)
         (X.numbers sibling.now) }
 {

@@ -26,8 +26,8 @@ fn place_above(index: usize, level: usize) -> (usize, usize)
     (level, number_above(index, level))
 }
 
-// The number of the place above a leaf, so many levels above the lowest pairs.
-fn number_above(index: usize, level: usize) -> usize
+/// Returns the number of the place above a leaf, so many levels above the lowest pairs.
+pub fn number_above(index: usize, level: usize) -> usize
     ensures { result ≡ index / 2 ^ suc level }
 {
     if level < 63 { index >> (level + 1) } else { 0 }

@@ -1,0 +1,13 @@
+use Rattle.std.proofs.Common.{◌-◌, length}
+use Rattle.ark_crh.specs.Ahead.{lent_couples, of_couple}
+use Rattle.ark_paths.specs.Rows.{digests_of}
+use Rattle.ark_paths.proofs.ListOutcomes.{IsSoFar}
+use Rattle.ark_paths.proofs.runs.upper_in_runs.Given as goal
+
+abbrev pub invariant-runs : goal.invariant-runs
+invariant-runs g l =
+    IsSoFar (of_couple (g.T.TreeHasher.hashes l.hasher).pair.upper) (lent_couples g.D.Numbered.numbers l.couples)
+    l.first (digests_of g.D.Numbered.numbers l.digests)
+
+abbrev pub decreases-runs : goal.decreases-runs
+decreases-runs g l = length l.couples - l.first
