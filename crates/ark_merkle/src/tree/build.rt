@@ -11,7 +11,7 @@ use crate::tree::levels::Levels;
 use ark_base::error::Error;
 use ark_base::serialize::DigestItem;
 use ark_paths::hasher::TreeHasher;
-use ark_paths::runs::{RUN, bottom_row, leaf_row, part_of, upper_row};
+use ark_paths::runs::{RUN, bottom_row, leaves_in_runs, part_of, upper_row};
 use std::alloc::Global;
 
 /// Returns the digests of leaves.
@@ -25,15 +25,7 @@ pub fn hash_all<L: DigestItem, D: DigestItem, T: TreeHasher<L, D>>(
     ensures size { IfOk result (λ digests.
         IsTreeSize (length leaves.now) → IsTreeSize (length digests.items)) }
 {
-    let mut digests = Vec::with_capacity(alloc, leaves.len())?;
-    let mut first = 0;
-    'runs: while first < leaves.len() {
-        let count = (leaves.len() - first).min(RUN);
-        let mut made = leaf_row(alloc, hasher, part_of(leaves, first, count))?;
-        digests.append(&mut made)?;
-        first += count;
-    }
-    Ok(digests)
+    leaves_in_runs(alloc, hasher, leaves)
 }
 
 // The hashes of the neighbours among leaf digests, in a list with room for all digests above them.
