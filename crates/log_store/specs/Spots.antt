@@ -2,8 +2,9 @@
 use Rattle.std.specs.Prelude.{◌≡◌, ℕ, ◌==◌, if◌then◌else◌, List, [], ◌∷◌, map, get_or, Option, Some, None, unwrap_or}
 use Rattle.std.specs.List.{range_with_len}
 use Rattle.ark_paths.specs.Pair.{Digest}
+use Rattle.merkle_log.specs.Asked.{IsPeak}
 use Rattle.merkle_log.specs.Kept.{front}
-use Rattle.merkle_log.specs.Stored.{stored_count, StoredValue}
+use Rattle.merkle_log.specs.Stored.{position, stored_count, StoredValue}
 use Rattle.log_store.specs.declared.spots.Spot.{Spot}
 
 -- the digest that was read at a position, the first of them
@@ -14,6 +15,11 @@ found (spot ∷ spots) at = if spot.position == at then (Some spot.digest) else 
 -- A digest was read at the position.
 abbrev pub IsRead : List Spot → ℕ → Type 0
 IsRead spots at = (digest : Digest) × (found spots at ≡ Some digest)
+
+-- The digests are those of the complete subtrees into which a log of this size falls, each at its level.
+abbrev pub ArePeaksOf : ℕ → List Digest → List Digest → Type 0
+ArePeaksOf size peaks digests =
+    (level place : ℕ) → IsPeak size level place → get_or peaks level [] ≡ get_or digests (position level place) []
 
 -- Each digest that was read is the list's own at its position.
 abbrev pub AreSpotsOf : List Spot → List Digest → Type 0

@@ -10,11 +10,12 @@ ghost use Rattle.merkle_log.specs.Kept.{Keeps};
 ghost use Rattle.merkle_log.specs.Log.{merkle_tree_hash};
 ghost use Rattle.merkle_log.specs.Stored.{position};
 ghost use Rattle.log_store.specs.Refused.{IsRefusedFor};
+ghost use Rattle.log_store.specs.Spots.{ArePeaksOf};
 ghost use Rattle.log_file.specs.Faults.{log_size, of_first};
 ghost use Rattle.log_file.specs.LogFile.{file_end, slot_to_take, stored_in, IsLogFile};
 
 use crate::disk::Disk;
-use crate::edge::{read_peaks, root_at, root_with};
+use crate::edge::{read_peaks, root_with};
 use crate::head::read_head;
 use crate::stop::Stop;
 use log_file::fault::Fault;
@@ -87,13 +88,6 @@ pub fn read_log<D: Disk>(disk: &D) -> Result<Log, Stop<D::Refusal>>
     })
 }
 
-// Returns the root of a log.
-fn root_in(log: &Log) -> &[u8; 32]
-    ensures { result.now ≡ log.now.root }
-{
-    &log.root
-}
-
 // Returns how many entries are asked for: as many as are named, or else all. The error is `Size` for more than there are.
 fn first_of(all: usize, named: Option<usize>) -> Result<usize, Fault>
     ensures size { IfOk result (λ size. (size ≡ unwrap_or named all) × (size ≤ all)) }
@@ -106,6 +100,55 @@ fn first_of(all: usize, named: Option<usize>) -> Result<usize, Fault>
         return Err(Fault::Size);
     }
     Ok(size)
+}
+
+/// The first entries of a log.
+#[derive(Clone, Copy)]
+pub struct Front {
+    /// How many they are.
+    pub size: usize,
+    pub root: [u8; 32],
+    /// The complete subtrees into which they fall, each at its level.
+    pub peaks: [[u8; 32]; 64],
+}
+
+/// Reads the first entries of the log of a file, as many as are named, or else all: the head, and at most 128 digests.
+///
+/// Errors: those of `root`.
+pub fn read_front<D: Disk>(disk: &D, named: Option<usize>) -> Result<Front, Stop<D::Refusal>>
+    ensures refused { let file = D.seen disk.now in
+        D.Obeys disk.now → IsRefusedFor file (of_first file named Ok) result }
+    ensures root { D.Obeys disk.now → (leaves : List Digest) → IsLogFile leaves (D.seen disk.now)
+        → IfOk result (λ front. (front.size ≡ unwrap_or named (length leaves))
+        × (front.size ≤ length leaves)
+        × (merkle_tree_hash node_of (sha256 []) (take front.size leaves) ≡ Ok front.root)) }
+    ensures peaks { D.Obeys disk.now → IfOk result (λ front.
+        ArePeaksOf front.size front.peaks (stored_in front.size (D.seen disk.now))) }
+    ensures size { D.Obeys disk.now → IfOk result (λ front.
+        of_first (D.seen disk.now) named Ok ≡ Ok front.size) }
+    ensures fits { IfOk result (λ front. front.size < 2 ^ 63) }
+    ensures near { IfOk result (λ front. file_end front.size < 2 ^ 64) }
+    ensures inside { D.Obeys disk.now → IfOk result (λ front.
+        file_end front.size ≤ length (D.seen disk.now)) }
+    ensures states { D.Obeys disk.now → IfOk result (λ front.
+        log_size (D.seen disk.now) ≡ Ok front.size → (second : Bool)
+        × (slot_to_take (D.seen disk.now) front.size front.root ≡ Some second)) }
+{
+    let log = read_log(disk)?;
+    let size = match first_of(log.size, named) {
+        Ok(size) => size,
+        Err(fault) => return Err(Stop::Fault(fault)),
+    };
+    if size == log.size {
+        let (root, peaks) = (log.root, log.peaks);
+        return Ok(Front { size, root, peaks });
+    }
+    let peaks = match read_peaks(disk, size) {
+        Ok(peaks) => peaks,
+        Err(refusal) => return Err(Stop::Disk(refusal)),
+    };
+    let root = root_with(disk, size, &peaks);
+    Ok(Front { size, root, peaks })
 }
 
 /// Returns the count and the root of the first entries of the log of a file, of as many as are named, or else of all. It reads
@@ -131,16 +174,7 @@ pub fn root<D: Disk>(disk: &D, named: Option<usize>) -> Result<(usize, [u8; 32])
         log_size (D.seen disk.now) ≡ Ok root.0
         → (second : Bool) × (slot_to_take (D.seen disk.now) root.0 root.1 ≡ Some second)) }
 {
-    let log = read_log(disk)?;
-    let size = match first_of(log.size, named) {
-        Ok(size) => size,
-        Err(fault) => return Err(Stop::Fault(fault)),
-    };
-    if size == log.size {
-        return Ok((size, *root_in(&log)));
-    }
-    match root_at(disk, size) {
-        Ok(root) => Ok((size, root)),
-        Err(refusal) => Err(Stop::Disk(refusal)),
-    }
+    let front = read_front(disk, named)?;
+    let root = front.root;
+    Ok((front.size, root))
 }

@@ -11,15 +11,15 @@ ghost use Rattle.merkle_log.specs.Kept.{Keeps};
 ghost use Rattle.merkle_log.specs.Stored.{position, row_at, IsStored};
 ghost use Rattle.merkle_log.specs.Verdict.{consistency_verdict, inclusion_verdict};
 ghost use Rattle.log_store.specs.Refused.{IsOnlyMemory, IsRefusedFor};
-ghost use Rattle.log_store.specs.Spots.{found, AreSpotsOf, IsRead};
+ghost use Rattle.log_store.specs.Spots.{found, ArePeaksOf, AreSpotsOf, IsRead};
 ghost use Rattle.log_file.specs.Faults.{is_older, log_size, of_first, only_if};
 ghost use Rattle.log_file.specs.LogFile.{file_end, slot_to_take, stored_in, IsLogFile};
 ghost use Rattle.log_file.specs.declared.fault.Fault.TheVariants.{Index, Memory, Size};
 
 use crate::disk::Disk;
 use crate::edge::{Whole, read_digest, root_at};
-use crate::log::root;
-use crate::spots::{Spot, Spots, read_beside, read_lowest, read_peaks_of};
+use crate::log::read_front;
+use crate::spots::{Spot, Spots, put_peaks, read_beside, read_lowest};
 use crate::stop::Stop;
 use ark_trees::LogHasher;
 use log_file::fault::Fault;
@@ -30,17 +30,20 @@ use merkle_log::{verify_consistency, verify_inclusion_digest};
 use std::alloc::Global;
 use std::marker::{Brand, PhantomData};
 
-// Reads the digests that the path of an index asks for, in a log of this size, which has digests behind the head.
+// Reads the digests that the path of an index asks for, in a log of this size whose peaks these are, which has digests behind the
+// head.
 fn read_way<D: Disk>(
     alloc: Global,
     disk: &D,
     index: usize,
     size: usize,
+    peaks: &[[u8; 32]; 64],
 ) -> Result<Vec<Spot>, Stop<D::Refusal>>
     requires index { index < size }
     requires fits { size < 2 ^ 63 }
     requires inside { file_end size < 2 ^ 64 }
     ensures own { D.Obeys disk.now → file_end size ≤ length (D.seen disk.now)
+        → ArePeaksOf size peaks.now (stored_in size (D.seen disk.now))
         → IfOk result (λ spots. AreSpotsOf spots.items (stored_in size (D.seen disk.now))) }
     ensures peaks { IfOk result (λ spots. (level place : ℕ) → IsPeak size level place
         → IsRead spots.items (position level place)) }
@@ -49,7 +52,7 @@ fn read_way<D: Disk>(
     ensures refused { IsOnlyMemory result }
 {
     let mut spots = Vec::new(alloc);
-    read_peaks_of(disk, size, &mut spots)?;
+    put_peaks(size, peaks, &mut spots)?;
     read_beside(disk, index, size, &mut spots)?;
     Ok(spots)
 }
@@ -127,12 +130,14 @@ fn consistency_at<D: Disk>(
     disk: &D,
     old_size: usize,
     size: usize,
+    peaks: &[[u8; 32]; 64],
 ) -> Result<Vec<[u8; 32]>, Stop<D::Refusal>>
     requires some { 0 < old_size }
     requires older { old_size ≤ size }
     requires fits { size < 2 ^ 63 }
     requires near { file_end size < 2 ^ 64 }
     ensures path { D.Obeys disk.now → file_end size ≤ length (D.seen disk.now)
+        → ArePeaksOf size peaks.now (stored_in size (D.seen disk.now))
         → (leaves : List Digest) → size ≤ length leaves
         → Keeps leaves (stored_in (length leaves) (D.seen disk.now))
         → let path = consistency_path node_of (sha256 []) old_size (take size leaves) in
@@ -142,7 +147,7 @@ fn consistency_at<D: Disk>(
     if old_size == size {
         return Ok(Vec::new(alloc));
     }
-    let mut spots = read_way(alloc, disk, old_size - 1, size)?;
+    let mut spots = read_way(alloc, disk, old_size - 1, size, peaks)?;
     read_lowest(disk, old_size, &mut spots)?;
     match consistency_over::<D, Brand>(alloc, disk, old_size, size, &spots) {
         Ok(path) => Ok(path),
@@ -213,7 +218,7 @@ pub struct ConsistencyProof {
 }
 
 /// Returns the inclusion proof of an index in the first entries of the log of a file, as many as are named, or else all. It
-/// reads the head and at most 256 digests, and checks the proof.
+/// reads the head and at most 192 digests, and checks the proof.
 ///
 /// Errors, the first that applies: those of `read_log`; `Size` for more than there are; `Index`; `Damaged` for a proof that
 /// does not hold; `Memory` in place of any.
@@ -244,11 +249,12 @@ pub fn prove<D: Disk>(
         log_size (D.seen disk.now) ≡ Ok proof.size → (second : Bool)
         × (slot_to_take (D.seen disk.now) proof.size proof.root ≡ Some second)) }
 {
-    let (size, root) = root(disk, named)?;
+    let front = read_front(disk, named)?;
+    let (size, root) = (front.size, front.root);
     if index >= size {
         return Err(Stop::Fault(Fault::Index));
     }
-    let spots = read_way(alloc, disk, index, size)?;
+    let spots = read_way(alloc, disk, index, size, &front.peaks)?;
     let path = match inclusion_over::<D, Brand>(alloc, disk, index, size, &spots) {
         Ok(path) => path,
         Err(fault) => return Err(Stop::Fault(fault)),
@@ -270,7 +276,7 @@ pub fn prove<D: Disk>(
 }
 
 /// Returns the proof that the first entries of the log of a file, as many as are named, or else all, continue its first
-/// `old_size` ones. It reads the head and at most 320 digests, and checks the proof.
+/// `old_size` ones. It reads the head and at most 256 digests, and checks the proof.
 ///
 /// Errors, the first that applies: those of `read_log`; `Size` for more than there are, for the old size 0 and for one above
 /// the size; `Damaged` for a proof that does not hold; `Memory` in place of any.
@@ -300,14 +306,15 @@ pub fn consistency<D: Disk>(
         log_size (D.seen disk.now) ≡ Ok proof.size → (second : Bool)
         × (slot_to_take (D.seen disk.now) proof.size proof.root ≡ Some second)) }
 {
-    let (size, root) = root(disk, named)?;
+    let front = read_front(disk, named)?;
+    let (size, root) = (front.size, front.root);
     if old_size == 0 {
         return Err(Stop::Fault(Fault::Size));
     }
     if size < old_size {
         return Err(Stop::Fault(Fault::Size));
     }
-    let path = match consistency_at(alloc, disk, old_size, size) {
+    let path = match consistency_at(alloc, disk, old_size, size, &front.peaks) {
         Ok(path) => path,
         Err(stop) => return Err(stop),
     };

@@ -6,7 +6,7 @@ ghost use Rattle.merkle_log.specs.Asked.{IsBeside, IsLowest, IsPeak};
 ghost use Rattle.merkle_log.specs.Binding.{index_beside};
 ghost use Rattle.merkle_log.specs.Stored.{position, row_at, stored_count};
 ghost use Rattle.log_store.specs.Refused.{IsOnlyMemory};
-ghost use Rattle.log_store.specs.Spots.{found, AreMore, AreSpotsOf, IsRead};
+ghost use Rattle.log_store.specs.Spots.{found, AreMore, ArePeaksOf, AreSpotsOf, IsRead};
 ghost use Rattle.log_file.specs.LogFile.{file_end, stored_in};
 
 use crate::disk::Disk;
@@ -55,6 +55,24 @@ fn find_spot(spots: &[Spot], position: usize) -> &[u8; 32]
     &spots[at].digest
 }
 
+// Puts a digest behind those that were read.
+fn put_spot<R: Drop>(
+    position: usize,
+    digest: [u8; 32],
+    spots: &mut Vec<Spot>,
+) -> Result<(), Stop<R>>
+    ensures own { (digests : List Digest) → digest ≡ get_or digests position []
+        → AreSpotsOf spots.old.items digests → OnOk result (AreSpotsOf spots.new.items digests) }
+    ensures read { OnOk result (IsRead spots.new.items position) }
+    ensures more { OnOk result (AreMore spots.old.items spots.new.items) }
+    ensures refused { IsOnlyMemory result }
+{
+    match spots.push(Spot { position, digest }) {
+        Ok(()) => Ok(()),
+        Err(_) => Err(Stop::Fault(Fault::Memory)),
+    }
+}
+
 // Reads the digest at a position.
 fn read_spot<D: Disk>(
     disk: &D,
@@ -70,27 +88,21 @@ fn read_spot<D: Disk>(
     ensures more { OnOk result (AreMore spots.old.items spots.new.items) }
     ensures refused { IsOnlyMemory result }
 {
-    let digest = match read_digest(disk, position) {
-        Ok(digest) => digest,
-        Err(refusal) => return Err(Stop::Disk(refusal)),
-    };
-    match spots.push(Spot { position, digest }) {
-        Ok(()) => Ok(()),
-        Err(_) => Err(Stop::Fault(Fault::Memory)),
+    match read_digest(disk, position) {
+        Ok(digest) => put_spot(position, digest, spots),
+        Err(refusal) => Err(Stop::Disk(refusal)),
     }
 }
 
-/// Reads the complete subtrees into which a log of this size falls, which has digests behind the head.
-pub fn read_peaks_of<D: Disk>(
-    disk: &D,
+/// Puts the complete subtrees into which a log of this size falls behind those that were read.
+pub fn put_peaks<R: Drop>(
     size: usize,
+    peaks: &[[u8; 32]; 64],
     spots: &mut Vec<Spot>,
-) -> Result<(), Stop<D::Refusal>>
+) -> Result<(), Stop<R>>
     requires fits { size < 2 ^ 63 }
-    requires inside { file_end size < 2 ^ 64 }
-    ensures own { D.Obeys disk.now → file_end size ≤ length (D.seen disk.now)
-        → AreSpotsOf spots.old.items (stored_in size (D.seen disk.now))
-        → OnOk result (AreSpotsOf spots.new.items (stored_in size (D.seen disk.now))) }
+    ensures own { (digests : List Digest) → ArePeaksOf size peaks.now digests
+        → AreSpotsOf spots.old.items digests → OnOk result (AreSpotsOf spots.new.items digests) }
     ensures read { OnOk result ((level place : ℕ) → IsPeak size level place
         → IsRead spots.new.items (position level place)) }
     ensures more { OnOk result (AreMore spots.old.items spots.new.items) }
@@ -100,7 +112,7 @@ pub fn read_peaks_of<D: Disk>(
     let mut left = size;
     'levels: while left > 0 {
         if left % 2 == 1 {
-            read_spot(disk, position_of(level, left - 1), spots)?;
+            put_spot(position_of(level, left - 1), peaks[level], spots)?;
         }
         left /= 2;
         level += 1;

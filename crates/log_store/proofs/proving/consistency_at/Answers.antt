@@ -40,19 +40,19 @@ read_lowest-requires-clause-inside g c = omega (
 )
 
 pub returns-then-old_size-size-clause-path : goal.returns-then-old_size-size-clause-path
-returns-then-old_size-size-clause-path g c = λ obeys inside leaves le keeps.
+returns-then-old_size-size-clause-path g c = λ obeys inside peaks leaves le keeps.
     let size = c.args.size in
     let long : length (take size leaves) ≡ size = length-take-le size leaves le in
     ap all_of (path-whole node_of (sha256 []) (take size leaves) c.args.old_size
     (omega (arith, long, c.if-old_size-size.true))) ∙ ap Ok (sym c.new.ensures.items)
 
 pub returns-in-Ok-clause-path : goal.returns-in-Ok-clause-path
-returns-in-Ok-clause-path g c = λ obeys inside leaves le keeps.
+returns-in-Ok-clause-path g c = λ obeys inside peaks leaves le keeps.
     let file = g.D.Disk.seen c.args.disk.now in
     let size = c.args.size in
     let own : AreSpotsOf c.deref.result.now (stored_in size file) = rw (c.deref.ensures.value)
     (c.in_ok-read_lowest.ensures.own obeys size (omega (arith, c.requires.older)) inside
-    (c.in_ok-spots.ensures.own obeys inside)) in
+    (c.in_ok-spots.ensures.own obeys inside peaks)) in
     ap (λ l. all_of (consistency_path node_of (sha256 []) c.args.old_size l))
     (sym (spotted-first {leaves = leaves} file size c.deref.result.now keeps le own))
     ∙ c.in-Ok.ensures.path (spotted-stored {leaves = leaves} file size c.deref.result.now keeps le own)

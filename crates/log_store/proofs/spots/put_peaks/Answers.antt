@@ -1,11 +1,11 @@
-use Rattle.std.proofs.Common.{◌≡◌, ◌-◌, ◌/◌, ◌∙◌, ap, sym, inl, inr, arith}
+use Rattle.std.proofs.Common.{[], get_or, ◌≡◌, ◌-◌, ◌/◌, ◌∙◌, ap, sym, inl, inr, arith}
 use Rattle.std.proofs.lemmas.Bool.{cases_lt}
 use Rattle.merkle_log.specs.Stored.{position}
 use Rattle.merkle_log.specs.Walk.{index_up}
 use Rattle.merkle_log.proofs.Positions.{up-more}
 use Rattle.log_store.proofs.Reading.{level-below, level-low, place-stands}
-use Rattle.log_store.proofs.spots.read_peaks_of.Goals as goal
-use Rattle.log_store.proofs.spots.read_peaks_of.Goals.{then-left-eq1+in_ok-read_spot, else-left-eq1}
+use Rattle.log_store.proofs.spots.put_peaks.Goals as goal
+use Rattle.log_store.proofs.spots.put_peaks.Goals.{then-left-eq1+in_ok-put_spot, else-left-eq1}
 
 pub position_of-requires-clause-below : goal.position_of-requires-clause-below
 position_of-requires-clause-below g c =
@@ -18,12 +18,6 @@ position_of-requires-clause-fits g c =
     (omega (arith, c.levels.invariant.left_is, c.levels-test.true)) in
     omega (arith, at.within, c.requires.fits)
 
-pub read_spot-requires : goal.read_spot-requires
-read_spot-requires g c =
-    let at = place-stands c.args.size c.levels.level (c.levels.left - 1) c.requires.fits
-    (omega (arith, c.levels.invariant.left_is, c.levels-test.true)) in
-    omega (arith, at.within, c.requires.inside, c.position_of.ensures)
-
 pub levels-preserved : goal.levels-preserved
 levels-preserved g c =
     let at = c.levels.invariant in
@@ -33,21 +27,23 @@ levels-preserved g c =
     let low = level-low c.levels.level size c.requires.fits (omega (arith, at.left_is, c.levels-test.true)) in
     let half = ap (λ n. n / 2) at.left_is ∙ sym (up-more c.levels.level size) in
     elim c.if-left-eq1.branch [
-      | then-left-eq1+in_ok-read_spot w ↦
+      | then-left-eq1+in_ok-put_spot w ↦
           record {
             left_is = half;
             low = omega arith;
-            own = rw (w.spots-is) (λ obeys inside own. w.in_ok-read_spot.ensures.own obeys size inside
-                (omega (arith, w.position_of.ensures, stands.within)) (at.own obeys inside own));
+            own = rw (w.spots-is) (λ digests peaks own. w.in_ok-put_spot.ensures.own digests
+                (peaks c.levels.level (c.levels.left - 1)
+                (omega (arith, at.left_is, w.if-left-eq1.true), omega (arith, at.left_is, c.levels-test.true))
+                ∙ ap (λ n. get_or digests n []) (sym w.position_of.ensures)) (at.own digests peaks own));
             read = rw (w.spots-is) (λ level place under peak. elim (cases_lt level c.levels.level) [
-              | inl less ↦ w.in_ok-read_spot.ensures.more (position level place) (at.read level place less peak)
+              | inl less ↦ w.in_ok-put_spot.ensures.more (position level place) (at.read level place less peak)
               | inr here ↦
                   let e : level ≡ c.levels.level = omega arith in
                   let p : place ≡ c.levels.left - 1 =
                   omega (arith, peak.1, ap (λ l. index_up l size) e, at.left_is) in
-                  rw (e, p, ← w.position_of.ensures) (w.in_ok-read_spot.ensures.read)
+                  rw (e, p, ← w.position_of.ensures) (w.in_ok-put_spot.ensures.read)
             ]);
-            more = rw (w.spots-is) (λ p read. w.in_ok-read_spot.ensures.more p (at.more p read));
+            more = rw (w.spots-is) (λ p read. w.in_ok-put_spot.ensures.more p (at.more p read));
           }
       | else-left-eq1 w ↦ record {
         left_is = half;
