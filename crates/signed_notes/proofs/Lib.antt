@@ -11,3 +11,4 @@ pub mod Cosigning
 pub mod Counted
 pub mod Opened
 pub mod Known
+mod Pieces

@@ -35,3 +35,9 @@ or_here byte bytes (Some (front, rest)) = Some (byte ∷ front, rest)
 abbrev pub cut_at_blank : List ℕ → Option (List ℕ × List ℕ)
 cut_at_blank [] = None
 cut_at_blank (byte ∷ bytes) = or_here byte bytes (cut_at_blank bytes)
+
+-- the pieces of some bytes: each ends before a mark, the last perhaps with the bytes
+abbrev pub pieces_in : ℕ → List ℕ → List (List ℕ)
+pieces_in mark [] = []
+pieces_in mark (byte ∷ bytes) =
+    if byte == mark then [] ∷ pieces_in mark bytes else onto_first byte (pieces_in mark bytes)

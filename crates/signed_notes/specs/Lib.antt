@@ -10,3 +10,5 @@ pub mod Counting
 pub mod Opening
 pub mod Checkpoints
 pub mod Views
+pub mod PolicyFiles
+pub mod PolicyViews

@@ -10,6 +10,9 @@ mod keys;
 mod laws;
 mod note;
 mod opening;
+mod policy_fault;
+mod policy_file;
+mod policy_words;
 mod texts;
 mod verifying;
 mod writing;
@@ -24,6 +27,8 @@ pub use laws::{
 };
 pub use note::{MOST_BYTES, MOST_SIGNATURES, Note, Signature, read};
 pub use opening::{Policy, open_checkpoint};
+pub use policy_fault::{PolicyFault, PolicyFaultAt};
+pub use policy_file::{PolicyFile, read_policy};
 pub use texts::{is_name, is_text};
 pub use verifying::{Verified, sign_note, signature_of, verify};
 pub use writing::{signature_line, write};
