@@ -1,3 +1,4 @@
 pub mod ReceiptTexts
 mod OneReading
 mod HeldKeys
+mod Denying

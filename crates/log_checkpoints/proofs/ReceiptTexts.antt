@@ -9,7 +9,7 @@ use Rattle.base64.specs.GeneralPurpose.{encode_of}
 use Rattle.ark_base.specs.Digits.{AreBytes}
 use Rattle.ark_paths.specs.Pair.{Digest}
 use Rattle.decimals.specs.Decimals.{decimal_number}
-use Rattle.log_checkpoints.specs.Receipts.{digest_line, receipt_of, IsPath}
+use Rattle.log_checkpoints.specs.Receipts.{digest_line, numbered, receipt_of, IsPath}
 use Rattle.signed_notes.specs.Cutting.{cut}
 use Rattle.signed_notes.proofs.CheckpointTexts.{lacks-decimal, number-whole}
 use Rattle.signed_notes.proofs.Cuts.{cut_parts}
@@ -109,33 +109,37 @@ lined-more (first ∷ path) digest bytes line rest behind so is spelled =
     ∙ ap (λ l. digest_line first ++ l) (lined-more path digest (flat_map digest_line path ++ rest) line rest behind refl
     is spelled) ∙ sym (append_assoc (digest_line first) (flat_map digest_line (path ++ (digest ∷ []))) behind)
 
--- ---- the title and the index
+-- ---- a number, and the title
+
+pub index-line : (n : ℕ) (path : List Digest) (note : List ℕ) → n < 2 ^ 64
+    → cut 10 (numbered n path note) ≡ Some (decimal n, lined path note)
+index-line n path note fits = cut-written 10 (decimal n) (lined path note) (lacks-decimal n fits)
+
+-- The bytes are that number, path and note.
+pub whole : (bytes line rest note : List ℕ) (n : ℕ) (path : List Digest) → cut 10 bytes ≡ Some (line, rest)
+    → decimal_number line ≡ Some n → rest ≡ lined path note → bytes ≡ numbered n path note
+whole bytes line rest note n path is number lines =
+    sym (cut-whole 10 bytes line rest is) ∙ ap (λ l. l ++ (10 ∷ rest)) (sym (number-whole line n number).digits_are)
+    ∙ ap (λ l. decimal n ++ (10 ∷ l)) lines
+
+-- what stands behind a title
+pub titled : (title bytes rest : List ℕ) (long : ℕ) → length title ≡ long → bytes ≡ title ++ rest
+    → (take long bytes ≡ title) × (long ≤ length bytes) × (drop long bytes ≡ rest)
+titled title bytes rest long is spelled = (
+  ap (take long) spelled ∙ take_at title rest long is,
+  omega (arith, ap length spelled, length-append title rest, is),
+  ap (drop long) spelled ∙ drop_at title rest long is,
+)
+
+-- The bytes are a title and what stands behind it.
+pub joined : (title bytes rest : List ℕ) (long : ℕ) → take long bytes ≡ title → drop long bytes ≡ rest
+    → bytes ≡ title ++ rest
+joined title bytes rest long begins behind =
+    sym (take-append-drop long bytes) ∙ ap (λ l. l ++ drop long bytes) begins ∙ ap (λ l. title ++ l) behind
 
 abbrev pub title : List ℕ
 title = codes "c2sp.org/tlog-proof@v1\nindex "
 
 pub begins : (index : ℕ) (path : List Digest) (note bytes : List ℕ) → bytes ≡ receipt_of index path note
-    → (take 29 bytes ≡ title) × (29 ≤ length bytes) × (drop 29 bytes ≡ decimal index ++ (10 ∷ lined path note))
-begins index path note bytes is =
-    let rest = decimal index ++ (10 ∷ lined path note) in (
-      ap (take 29) is ∙ take_at title rest 29 refl,
-      omega (arith, ap length is, length-append title rest, long),
-      ap (drop 29) is ∙ drop_at title rest 29 refl,
-    )
-  where
-    long : length title ≡ 29
-    long = refl
-
-pub index-line : (index : ℕ) (path : List Digest) (note : List ℕ) → index < 2 ^ 64
-    → cut 10 (decimal index ++ (10 ∷ lined path note)) ≡ Some (decimal index, lined path note)
-index-line index path note fits = cut-written 10 (decimal index) (lined path note) (lacks-decimal index fits)
-
--- The bytes are that receipt.
-pub whole : (bytes line rest note : List ℕ) (index : ℕ) (path : List Digest) → take 29 bytes ≡ title
-    → cut 10 (drop 29 bytes) ≡ Some (line, rest) → decimal_number line ≡ Some index → rest ≡ lined path note
-    → bytes ≡ receipt_of index path note
-whole bytes line rest note index path begins is number lines =
-    sym (take-append-drop 29 bytes) ∙ ap (λ l. l ++ drop 29 bytes) begins
-    ∙ ap (λ l. title ++ l) (sym (cut-whole 10 (drop 29 bytes) line rest is)
-    ∙ ap (λ l. l ++ (10 ∷ rest)) (sym (number-whole line index number).digits_are)
-    ∙ ap (λ l. decimal index ++ (10 ∷ l)) lines)
+    → (take 29 bytes ≡ title) × (29 ≤ length bytes) × (drop 29 bytes ≡ numbered index path note)
+begins index path note bytes is = titled title bytes (numbered index path note) 29 refl is

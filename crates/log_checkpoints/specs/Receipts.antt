@@ -26,9 +26,23 @@ abbrev pub receipt_of : ℕ → List Digest → List ℕ → List ℕ
 receipt_of index path note =
     codes "c2sp.org/tlog-proof@v1\nindex " ++ (decimal index ++ (10 ∷ (flat_map digest_line path ++ (10 ∷ note))))
 
+-- a number, a line for each digest of a path, an empty line, and a note
+abbrev pub numbered : ℕ → List Digest → List ℕ → List ℕ
+numbered n path note = decimal n ++ (10 ∷ (flat_map digest_line path ++ (10 ∷ note)))
+
 -- Digests of 32 bytes each, as many as a path may have.
 abbrev pub IsPath : List Digest → Type 0
 IsPath path = (length path ≤ 64) × AllByRecursion (AreBytes 32) path
+
+-- The bytes are such a number, path and note.
+pub record IsNumbered (n : ℕ) (path : List Digest) (note bytes : List ℕ) : Type 0 where
+  pub fits : n < 2 ^ 64
+  pub path_is : IsPath path
+  pub spelled : bytes ≡ numbered n path note
+
+-- The bytes are none.
+abbrev pub AreNotNumbered : List ℕ → Type 0
+AreNotNumbered bytes = (n : ℕ) (path : List Digest) (note : List ℕ) → IsNumbered n path note bytes → ⊥
 
 -- The bytes are a receipt of these parts.
 pub record IsReceipt (index : ℕ) (path : List Digest) (note bytes : List ℕ) : Type 0 where

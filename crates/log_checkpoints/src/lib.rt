@@ -9,10 +9,12 @@ ghost use Rattle.log_store.specs.Disk.{After, LeavesOnly, Torn};
 ghost use Rattle.log_store.specs.Store.{IsDurable, IsDurableBehind};
 ghost use Rattle.signed_notes.specs.Views.{signer_parts};
 
+mod adding;
 mod laws;
 mod receipts;
 mod witnessing;
 
+pub use adding::{Denial, OLD, Reply, Unanswered, answer_adding, write_reply};
 pub use laws::{quorums_of_keys_meet, receipts_have_one_reading, receipts_have_one_verdict};
 use log_store::{Disk, Stop, rewrite_head};
 pub use receipts::{Receipt, ReceiptFault, TITLE, read_receipt, verify_receipt, write_receipt};

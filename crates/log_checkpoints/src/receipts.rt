@@ -8,7 +8,7 @@ ghost use Rattle.ark_base.specs.Digits.{AreBytes};
 ghost use Rattle.ark_paths.specs.Pair.{Digest};
 ghost use Rattle.ark_trees.specs.Rfc6962.{entry_hash, node_of};
 ghost use Rattle.log_checkpoints.specs.declared.receipts.ReceiptFault.TheVariants.{Note};
-ghost use Rattle.log_checkpoints.specs.Receipts.{digest_line, receipt_of, HaveNoPath, IsMisspelled, IsPath, IsReceipt, IsReceiptOf, IsUnaccepted, IsUnread, LeadsElsewhere, ShowsEntry};
+ghost use Rattle.log_checkpoints.specs.Receipts.{digest_line, receipt_of, AreNotNumbered, HaveNoPath, IsMisspelled, IsNumbered, IsPath, IsReceipt, IsReceiptOf, IsUnaccepted, IsUnread, LeadsElsewhere, ShowsEntry};
 ghost use Rattle.signed_notes.specs.Cutting.{cut};
 ghost use Rattle.signed_notes.specs.declared.fault.Fault.TheVariants.{Memory};
 ghost use Rattle.merkle_log.specs.Verdict.{inclusion_verdict};
@@ -134,6 +134,30 @@ fn path_in(alloc: Global, bytes: &[u8]) -> Result<(Vec<[u8; 32]>, &[u8]), Receip
     Err(ReceiptFault::Spelling)
 }
 
+/// A number, a path and a note behind them, that were read.
+#[derive(Drop)]
+pub(crate) struct Numbered<'a> {
+    pub number: usize,
+    pub path: Vec<[u8; 32]>,
+    pub note: &'a [u8],
+}
+
+/// Reads a number, a line for each digest of a path, an empty line, and a note.
+pub(crate) fn numbered_in(alloc: Global, bytes: &[u8]) -> Result<Numbered<'_>, ReceiptFault>
+    ensures read { IfOk result (λ read.
+        IsNumbered read.number read.path.items read.note.now bytes.now) }
+    ensures refused { IfErr result (IsMisspelled (AreNotNumbered bytes.now)) }
+{
+    let Some((line, rest)) = cut_line(bytes) else {
+        return Err(ReceiptFault::Spelling);
+    };
+    let Some(number) = decimal_number(line) else {
+        return Err(ReceiptFault::Spelling);
+    };
+    let (path, note) = path_in(alloc, rest)?;
+    Ok(Numbered { number, path, note })
+}
+
 /// Reads a receipt: what `write_receipt` writes of at most 64 digests, and nothing else.
 ///
 /// Errors: `Spelling` for bytes that are none; `Memory`.
@@ -145,14 +169,12 @@ pub fn read_receipt(alloc: Global, bytes: &[u8]) -> Result<Receipt<'_>, ReceiptF
     if bytes.len() < TITLE.len() || bytes[..TITLE.len()] != TITLE[..] {
         return Err(ReceiptFault::Spelling);
     }
-    let Some((line, rest)) = cut_line(&bytes[TITLE.len()..]) else {
-        return Err(ReceiptFault::Spelling);
-    };
-    let Some(index) = decimal_number(line) else {
-        return Err(ReceiptFault::Spelling);
-    };
-    let (path, note) = path_in(alloc, rest)?;
-    Ok(Receipt { index, path, note })
+    let Numbered { number, path, note } = numbered_in(alloc, &bytes[TITLE.len()..])?;
+    Ok(Receipt {
+        index: number,
+        path,
+        note,
+    })
 }
 
 // Whether a path shows an entry at an index of a log with this root and size.
