@@ -37,6 +37,50 @@ def lays_out(room, names, digests):
                 os.remove(log)
 
 
+def heals(room, names, digests):
+    """A sector that is lost is written again before the log is appended to or signed."""
+    log, key = room + "/healed", room + "/healed-key"
+    ask("keygen", "healed.example", key)
+    for size in (0, 1, 2, 5):
+        whole, grown = apart(file_of(digests[:size])), apart(file_of(digests[: size + 1]))
+        top = root(digests[:size]).hex()
+        write(log, whole)
+        signed = ask("checkpoint", log, "--key", key)
+        for sector in (0, 4096):
+            own = whole[sector : sector + 4096]
+            for what, lost in (("zeros", bytes(4096)), ("random bytes", os.urandom(4096)), ("no title", bytes(32) + own[32:]), ("no slot", own[:32] + bytes(4064))):
+                data, named = whole[:sector] + lost + whole[sector + 4096 :], "%s in sector %d of a log of %d: " % (what, sector, size)
+                write(log, data)
+                check(named + "it is read", ask("root", log) == (0, "%d %s\n" % (size, top), "") and read(log) == data)
+                check(named + "an append", ask("append", log, names[size]) == (0, "%d\n" % (size + 1), "") and read(log) == grown)
+                write(log, data)
+                check(named + "an append after it", ask("append", log, "--after", size, top, names[size]) == (0, "%d\n" % (size + 1), "") and read(log) == grown)
+                write(log, data)
+                check(named + "it is signed", ask("checkpoint", log, "--key", key) == signed and read(log) == whole)
+    both = bytes(8192) + whole[8192:]
+    write(log, both)
+    check("both sectors are lost: nothing is written", ask("append", log, names[size])[0] == 3 and read(log) == both)
+    said = {"%d %s\n" % (count, root(digests[:count]).hex()) for count in (size, size + 1)}
+    if shutil.which("strace"):
+        for sector in (0, 4096):
+            data = whole[:sector] + os.urandom(4096) + whole[sector + 4096 :]
+            for call, times in (("pwrite64", 8), ("fsync", 7)):
+                for number in range(1, times + 1):
+                    for how in ("signal=KILL", "error=EIO"):
+                        write(log, data)
+                        trace = ["strace", "-o", "/dev/null", "-e", "trace=" + call, "-e", "inject=%s:%s:when=%d" % (call, how, number)]
+                        subprocess.run([*trace, PROGRAM, "append", log, names[size]], stdout=subprocess.PIPE, stderr=subprocess.PIPE)
+                        check("%s %d, %s: sector %d is lost" % (call, number, how, sector), ask("root", log)[1] in said)
+        # a sector whose read is refused once: of these calls the first reads the first sector, the second one the second sector
+        for number in (1, 2):
+            write(log, whole)
+            trace = ["strace", "-o", "/dev/null", "-e", "trace=pread64", "-e", "inject=pread64:error=EIO:when=%d" % number, "-P", log]
+            ran = subprocess.run([*trace, PROGRAM, "append", log, names[size]], stdout=subprocess.PIPE, stderr=subprocess.PIPE)
+            check("sector %d is refused: an append" % number, (ran.returncode, ran.stdout) == (0, b"%d\n" % (size + 1)) and read(log) == grown)
+    for name in (log, key):
+        os.remove(name)
+
+
 def lies_apart(room, names, digests):
     log = room + "/apart"
     for size in (0, 1, 2, 5, len(digests) - 1):
@@ -61,11 +105,6 @@ def lies_apart(room, names, digests):
         write(log, lost[1])
         check("zeros for the second slot: an append", ask("append", log, names[size]) == (0, "%d\n" % (size + 1), ""))
         check("zeros for the second slot: both are there", together(read(log)) == file_of(digests[: size + 1]))
-        write(log, lost[0])
-        if size:
-            check("no first sector: nothing is written", ask("append", log, names[size])[0] == 6 and read(log) == lost[0])
-        else:
-            check("no first sector, and no entry: it is made", ask("append", log, names[0]) == (0, "1\n", "") and read(log) == apart(file_of(digests[:1])))
     for cut in (0, 32, 64, 4096, 4160, 8191):
         write(log, apart(file_of([]))[:cut])
         check("a file with sectors that is cut at %d" % cut, ask("root", log)[0] == 3)

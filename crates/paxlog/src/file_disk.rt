@@ -3,7 +3,7 @@
 ghost use Rattle.std.specs.Prelude.{[]};
 
 use log_file::head::START;
-use log_store::{Disk, Layout, SectorDisk, SectorRefusal, layout_of};
+use log_store::{Disk, Layout, SectorDisk, SectorRefusal, Stop, layout_of};
 use std::fs::File;
 use std::io;
 use std::os::unix::fs::FileExt;
@@ -105,6 +105,16 @@ impl FileDisk {
             self.sectors.layout = Layout::Apart;
         }
         Ok(is_new)
+    }
+
+    /// Writes the sector of a slot again that is lost, where the other one has the log. Errors: the log's fault, of a file with
+    /// sectors; the system's.
+    pub fn heal(&mut self) -> Result<(), Stop<io::Error>> {
+        match log_store::heal(&mut self.sectors) {
+            Ok(()) => Ok(()),
+            Err(Stop::Fault(fault)) => Err(Stop::Fault(fault)),
+            Err(Stop::Disk(refusal)) => Err(Stop::Disk(refusal_of(refusal))),
+        }
     }
 
     /// Returns the open file.

@@ -32,11 +32,12 @@ pub fn sync_folder_of(rt: &HostRuntime, path: &str) -> Result<(), Stop> {
 }
 
 // Makes a file ready for appends: a file that has no byte, or no more than a part of the two sectors of no entries, gets these sectors;
-// a part of an older head is completed, and of another file the head is written again. The folder is synced too as long as the
-// log has no entry: whoever made the file may have ended before its name was on the disk.
+// a part of an older head is completed, and of another file a sector that is lost, and the head, are written again. The folder is synced
+// too as long as the log has no entry: whoever made the file may have ended before its name was on the disk.
 fn make_file(rt: &HostRuntime, path: &str, disk: &mut FileDisk) -> Result<(), Stop> {
     let has_entries = disk.length()? > START;
     if !disk.lay_out()? {
+        disk.heal()?;
         log_store::make(disk)?;
     }
     if !has_entries {
@@ -112,6 +113,7 @@ impl<'a> Keeper<'a> {
         if options.after.is_none() {
             make_file(rt, path, &mut disk)?;
         } else {
+            disk.heal()?;
             log_store::rewrite_head(&mut disk)?;
         }
         Ok(Keeper {
@@ -300,10 +302,12 @@ pub fn unchanged(rt: &HostRuntime, path: &str) -> Result<FileDisk, Stop> {
     opened_alone(rt, path, false)
 }
 
-/// Opens the file of a log that is to be signed, to which nobody appends meanwhile. Its head is written again before that, so the
-/// file has to be one that may be written.
+/// Opens the file of a log that is to be signed, to which nobody appends meanwhile. A sector that is lost, and then its head, are
+/// written again before that, so the file has to be one that may be written.
 pub fn to_be_signed(rt: &HostRuntime, path: &str) -> Result<FileDisk, Stop> {
-    opened_alone(rt, path, true)
+    let mut disk = opened_alone(rt, path, true)?;
+    disk.heal()?;
+    Ok(disk)
 }
 
 /// Returns what of a file can be recovered.
