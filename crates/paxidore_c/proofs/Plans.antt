@@ -1,8 +1,8 @@
 -- Steps that a caller carries out on a file.
-use Rattle.std.proofs.Common.{zero, suc, ◌≡◌, ◌⊎◌, inl, inr, ℕ, ◌+◌, ◌-◌, ◌<◌, ◌≤◌, List, [], ◌∷◌, ◌++◌, length, take, drop, get_or, refl, ap, sym, ◌∙◌, subst, append_assoc, max, arith}
+use Rattle.std.proofs.Common.{zero, suc, ◌≡◌, ◌⊎◌, inl, inr, ℕ, ◌+◌, ◌-◌, ◌<◌, ◌≤◌, List, [], ◌∷◌, ◌++◌, length, take, drop, get_or, refl, ap, sym, ◌∙◌, subst, append_assoc, arith}
 use Rattle.std.proofs.lemmas.Bool.{cases_lt}
 use Rattle.std.proofs.lemmas.List.{drop-append-le, drop-drop, drop-take, get_or-take, length-append, length-drop, length-take-le, take-append-drop, take-append-le, take_all, take_at}
-use Rattle.std.proofs.Math.Nat.{le-max_left, le-max_right, max-eq_left, max-eq_right}
+use Rattle.std.proofs.Math.Nat.{le-max_left, le-max_right}
 use Rattle.std.proofs.Math.Seq.{drop-append_seam}
 use Rattle.log_file.proofs.Pieces.{piece-written}
 use Rattle.log_store.specs.Disk.{Cut, Elapses, Torn}
@@ -55,21 +55,6 @@ module _ (at : ℕ) (file bytes : List ℕ) (inside : at ≤ length file) where
     mixed = λ i less. inr (sym (get_or-take (length bytes) (drop at (written file at bytes)) i 0 less)
         ∙ ap (λ l. get_or l i 0) (piece-written file bytes at (length bytes) refl inside));
   }
-
--- how long a file is that was written to
-pub length-carried : (at : ℕ) (file bytes : List ℕ) → at ≤ length file
-    → length (written file at bytes) ≡ max (length file) (at + length bytes)
-length-carried at file bytes inside =
-    let end = at + length bytes in
-    let all : length (written file at bytes) ≡ end + length (drop end file) = long at file bytes inside in
-    elim (cases_lt (length file) end) [
-      | inl short ↦
-          let right : max (length file) end ≡ end = max-eq_right {n = length file} {m = end} (omega (arith, short)) in
-          omega (arith, all, right, length-drop end file)
-      | inr ge ↦
-          let left : max (length file) end ≡ length file = max-eq_left {n = length file} {m = end} ge in
-          omega (arith, all, left, length-drop end file, ge)
-    ]
 
 -- ---- steps
 
