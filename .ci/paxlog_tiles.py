@@ -10,6 +10,8 @@ import time
 
 import paxlog_entries
 import paxlog_folders
+import paxlog_policies
+import paxlog_requests
 from paxlog_model import DRAWS, KILLS, LARGEST, PROGRAM, ask, check, read, root, sha, write
 
 SIZES = [size for size in (0, 1, 2, 200, 256, 257, 600, 1024, 65536, 66000) if size <= LARGEST]
@@ -351,6 +353,8 @@ def serves_tiles(room, notes):
     paxlog_folders.locks_folders(room, verifier)
     paxlog_folders.works_while_others_append(room, verifier)
     paxlog_folders.needs_a_state(room, verifier, notes)
+    paxlog_policies.asks_by_policy(room, verifier, notes)
+    paxlog_requests.replies(room, verifier, cosigner, notes)
     paxlog_folders.is_on_the_disk(room, verifier)
     paxlog_folders.keys_are_secret(room)
     paxlog_entries.keeps_entries_of_any_bytes(room, verifier, notes)

@@ -5,7 +5,7 @@ use crate::reading::key_file_bytes;
 use crate::stop::{Stop, StopAt, placed};
 use crate::store::{created_secret, random_seed, to_be_signed};
 use crate::words::Name;
-use log_checkpoints::{ReceiptFault, Unsigned, checkpoint, verify_receipt};
+use log_checkpoints::{Unsigned, checkpoint};
 use paxlog_run::request::{Word, bytes_at};
 use signed_notes::{Checkpoint, Cosigner, Policy, Signer, Verifier, open_checkpoint};
 use std::alloc::Global;
@@ -108,43 +108,15 @@ pub fn verifier(alloc: Global, words: &[Vec<u8>], key: Word) -> Result<Verifier<
     }
 }
 
-/// Returns the size and the root that a checkpoint states, where the key signed it and its origin is the one that is named, or
-/// the name of the key.
+/// Returns the size and the root that a checkpoint states, where it is signed as a policy asks and its origin is this one.
 pub fn opened(
     alloc: Global,
-    log: &Verifier,
+    policy: &Policy,
     note: &[u8],
-    origin: Option<&str>,
+    origin: &str,
 ) -> Result<(usize, [u8; 32]), signed_notes::Fault> {
-    let policy = Policy {
-        log: *log,
-        witnesses: &[],
-        quorum: 0,
-    };
-    let Checkpoint { size, root, .. } = open_checkpoint(
-        alloc,
-        note,
-        origin.unwrap_or(log.name),
-        &policy,
-    )?;
+    let Checkpoint { size, root, .. } = open_checkpoint(alloc, note, origin, policy)?;
     Ok((size, root))
-}
-
-/// Returns the size and the root of the log that a receipt shows an entry of, where the key signed its checkpoint and that is of the
-/// origin that is named, or of the name of the key.
-pub fn shown(
-    alloc: Global,
-    log: &Verifier,
-    receipt: &[u8],
-    entry: &[u8],
-    origin: Option<&str>,
-) -> Result<Option<(usize, [u8; 32])>, ReceiptFault> {
-    let policy = Policy {
-        log: *log,
-        witnesses: &[],
-        quorum: 0,
-    };
-    verify_receipt(alloc, receipt, entry, origin.unwrap_or(log.name), &policy)
 }
 
 /// Returns why a note or a key is none, or is not accepted.

@@ -2,7 +2,7 @@
 
 use crate::folders::TileFault;
 use crate::stop::{Stop, StopAt};
-use crate::{checkpoints, usage};
+use crate::{checkpoints, signers, usage};
 use log_file::fault::Fault;
 use paxlog_run::request::{Misuse, bytes_at};
 use std::io::Write;
@@ -179,6 +179,13 @@ pub fn complain(rt: &HostRuntime, words: &[Vec<u8>], stop: StopAt) -> u8 {
             let why = checkpoints::reason(fault);
             begin(rt, words, place);
             let _ = eprintln!(rt; "{why}");
+            REFUSED
+        }
+        Stop::Policy(fault) => {
+            let line = fault.line;
+            let why = signers::reason(fault.why);
+            begin(rt, words, place);
+            let _ = eprintln!(rt; "line {line}: {why}");
             REFUSED
         }
         Stop::Tile(fault) => complain_of_tile(rt, fault),

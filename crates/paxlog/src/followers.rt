@@ -4,24 +4,25 @@ ghost use Rattle.std.specs.Prelude.{◌<◌, ◌^◌, [], IfOk};
 
 use crate::checkpoints::{opened, without_feed};
 use crate::entries::EntryReader;
-use crate::folders::{CHECKPOINT, FolderTiles};
+use crate::folders::{CHECKPOINT, FolderTiles, TileFault};
 use crate::keeping::{keep_entries, kept_entries};
 use crate::reading::{if_found, key_file_bytes, note_bytes};
 use crate::stop::{Stop, StopAt, placed};
 use crate::store::sync_folder_of;
 use crate::words::Name;
 use crate::writing::{locked, locked_folder, remove_whole, write_whole};
+use log_checkpoints::{Unwitnessed, Witness, witness_checkpoint};
 use log_file::fault::Fault;
 use log_store::InclusionProof;
 use log_tiles::{
-    Head, HeadFile, TileDisk, Unfollowed, Unmoved, audit as is_sound, continues, follow as step,
-    prove_in_tiles as proof_of,
+    Head, HeadFile, TileDisk, Unfollowed, Unmoved, Unread, audit as is_sound, continues,
+    follow as step, prove_in_tiles as proof_of,
 };
 use merkle_log::kept::is_size;
 use paxlog_run::replies::{line_of, line_of_root};
 use paxlog_run::request::Entries;
 use sha2::{Digest, Sha256};
-use signed_notes::{Cosigner, Verifier, cosign};
+use signed_notes::{Cosigner, Policy, Signer};
 use std::fs::File;
 use std::time::{SystemTime, UNIX_EPOCH};
 use std::{fs, io};
@@ -39,14 +40,9 @@ pub fn nothing() -> Head {
     }
 }
 
-// What a note states, where the key signed it.
-fn stated(
-    rt: &HostRuntime,
-    key: &Verifier,
-    note: &[u8],
-    origin: Option<&str>,
-) -> Result<Head, Stop> {
-    match opened(rt.alloc(), key, note, origin) {
+// What a note states, where it is signed as a policy asks.
+fn stated(rt: &HostRuntime, policy: &Policy, note: &[u8], origin: &str) -> Result<Head, Stop> {
+    match opened(rt.alloc(), policy, note, origin) {
         Ok(stated) => {
             let (size, root) = (stated.0, stated.1);
             Ok(Head { size, root })
@@ -55,17 +51,32 @@ fn stated(
     }
 }
 
-/// Returns what the note of a file states, where the key signed it; that the log had no entry, where there is no such file.
+/// Returns what the note of a file states, where it is signed as a policy asks; that the log had no entry, where there is no such file.
 pub fn stated_by_note(
     rt: &HostRuntime,
-    key: &Verifier,
+    policy: &Policy,
+    path: &str,
+    origin: &str,
+) -> Result<Head, Stop> {
+    match if_found(note_bytes(rt, path))? {
+        Some(note) => stated(rt, policy, &note, origin),
+        None => Ok(nothing()),
+    }
+}
+
+/// The same of a file that the log of a signer signed. The origin is the name of its key where no other is named.
+pub fn stated_by_signer(
+    rt: &HostRuntime,
+    signer: &Signer,
     path: &str,
     origin: Option<&str>,
 ) -> Result<Head, Stop> {
-    match if_found(note_bytes(rt, path))? {
-        Some(note) => stated(rt, key, &note, origin),
-        None => Ok(nothing()),
-    }
+    let policy = Policy {
+        log: signer.verifier(),
+        witnesses: &[],
+        quorum: 0,
+    };
+    stated_by_note(rt, &policy, path, origin.unwrap_or(signer.name))
 }
 
 /// Returns the log of a checkpoint, in the tiles of a folder.
@@ -80,12 +91,12 @@ pub fn log_in_folder<'a>(
     }
 }
 
-/// A folder of tiles, the key that signs its checkpoints, and their origin, where one is named.
+/// A folder of tiles, who has to sign its checkpoints, and their origin.
 #[derive(Clone, Copy)]
 pub struct Source<'a> {
     pub folder: Name<'a>,
-    pub key: Verifier<'a>,
-    pub origin: Option<&'a str>,
+    pub policy: Policy<'a>,
+    pub origin: &'a str,
 }
 
 /// A folder's checkpoint: its note, and what that states.
@@ -95,11 +106,11 @@ pub struct Published {
     pub head: Head,
 }
 
-/// Reads the checkpoint of a folder, which the key signed.
+/// Reads the checkpoint of a folder, which is signed as the policy asks.
 pub fn read_checkpoint(rt: &HostRuntime, from: &Source) -> Result<Published, Stop> {
     let path = checkpoint_name(rt, from.folder.text)?;
     let note = note_bytes(rt, path.as_str())?;
-    let head = stated(rt, &from.key, &note, from.origin)?;
+    let head = stated(rt, &from.policy, &note, from.origin)?;
     Ok(Published { note, head })
 }
 
@@ -205,8 +216,8 @@ fn check_state(rt: &HostRuntime, state: &str, makes_first: bool) -> Result<(), S
     }
 }
 
-// Locks the state of a follower, whose file is replaced when it moves on: a file beside it is locked.
-fn locked_state(rt: &HostRuntime, state: &str, makes_first: bool) -> Result<File, Stop> {
+/// Locks the state of a follower, whose file is replaced when it moves on: a file beside it is locked.
+pub fn locked_state(rt: &HostRuntime, state: &str, makes_first: bool) -> Result<File, Stop> {
     check_state(rt, state, makes_first)?;
     let path = format!(in rt.alloc(); "{state}.lock")?;
     let lock = match locked(rt, path.as_str()) {
@@ -260,20 +271,20 @@ fn keep_evidence(
     write_note(rt, proof.as_str(), &fork_words(rt, disk, old)?)
 }
 
-// Writes a note to a file, whole or not at all, and returns once it is on the disk.
-fn write_note(rt: &HostRuntime, path: &str, note: &[u8]) -> Result<(), Stop> {
+/// Writes a note to a file, whole or not at all, and returns once it is on the disk.
+pub fn write_note(rt: &HostRuntime, path: &str, note: &[u8]) -> Result<(), Stop> {
     write_whole(rt, path, note)?;
     sync_folder_of(rt, path)
 }
 
-/// The file of a follower's state: the note of the checkpoint at which it was left, which the key signed. That its two calls do what
-/// `HeadFile` says is trusted.
+/// The file of a follower's state: the note of the checkpoint at which it was left, which is signed as the policy asks. That its two
+/// calls do what `HeadFile` says is trusted.
 #[derive(Drop)]
-struct StateFile<'a> {
-    rt: &'a HostRuntime,
-    path: &'a str,
-    key: Verifier<'a>,
-    origin: Option<&'a str>,
+pub struct StateFile<'a> {
+    pub rt: &'a HostRuntime,
+    pub path: &'a str,
+    pub policy: Policy<'a>,
+    pub origin: &'a str,
 }
 
 impl<'a> HeadFile for StateFile<'a> {
@@ -292,7 +303,7 @@ impl<'a> HeadFile for StateFile<'a> {
     ghost only_now = { λ _ _ since. since };
 
     fn read(&self) -> Result<Head, Stop> {
-        stated_by_note(self.rt, &self.key, self.path, self.origin)
+        stated_by_note(self.rt, &self.policy, self.path, self.origin)
     }
 
     fn replace(&mut self, _head: &Head, note: &[u8]) -> Result<(), Stop> {
@@ -300,39 +311,54 @@ impl<'a> HeadFile for StateFile<'a> {
     }
 }
 
-// Moves a state, which is locked, on to the checkpoint of a folder. Where no log has both, the evidence is kept beside the state.
-fn move_on(rt: &HostRuntime, from: &Source, state: Name, new: &Published) -> Result<(), StopAt> {
-    let folder = from.folder;
-    let disk = log_in_folder(rt, folder.text, &new.head)?;
-    let mut file = StateFile {
+// The file of a state.
+fn state_file<'a>(rt: &'a HostRuntime, from: &Source<'a>, state: Name<'a>) -> StateFile<'a> {
+    StateFile {
         rt,
         path: state.text,
-        key: from.key,
+        policy: from.policy,
         origin: from.origin,
-    };
-    match step(rt.alloc(), &disk, &mut file, &new.head, &new.note) {
-        Ok(()) => Ok(()),
-        Err(Unmoved::File(why)) => Err(why.at(state.place)),
-        Err(Unmoved::Unfollowed(old, Unfollowed::Fork)) => {
-            let kept = keep_evidence(rt, state.text, &disk, &old, new);
-            placed(state.place, kept)?;
-            Err(Stop::Fork.at(folder.place))
+    }
+}
+
+// Why a state did not move on to the checkpoint of a folder, whose tiles the disk reads. Where no log has both, the evidence is kept
+// beside the state.
+fn why_unmoved(
+    rt: &HostRuntime,
+    from: &Source,
+    state: Name,
+    disk: &TileDisk<FolderTiles<'_>>,
+    new: &Published,
+    why: Unmoved<Unread<TileFault>, Stop>,
+) -> StopAt {
+    let folder = from.folder;
+    match why {
+        Unmoved::File(why) => why.at(state.place),
+        Unmoved::Unfollowed(old, Unfollowed::Fork) => {
+            match keep_evidence(rt, state.text, disk, &old, new) {
+                Ok(()) => Stop::Fork.at(folder.place),
+                Err(why) => why.at(state.place),
+            }
         }
-        Err(Unmoved::Unfollowed(_, why)) => Err(Stop::from(why).at(folder.place)),
+        Unmoved::Unfollowed(_, why) => Stop::from(why).at(folder.place),
     }
 }
 
 /// Moves a follower's state on to the checkpoint of a folder, which continues the one that it was left at, and returns what that
 /// states. Where no log has both, the new one is kept beside the state as evidence.
-pub fn follow(rt: &HostRuntime, from: &Source, state: Name) -> Result<Head, StopAt> {
+pub fn follow<'a>(rt: &'a HostRuntime, from: &Source<'a>, state: Name<'a>) -> Result<Head, StopAt> {
     let _lock = placed(state.place, locked_state(rt, state.text, true))?;
     let new = placed(from.folder.place, read_checkpoint(rt, from))?;
-    move_on(rt, from, state, &new)?;
-    Ok(new.head)
+    let disk = log_in_folder(rt, from.folder.text, &new.head)?;
+    let mut file = state_file(rt, from, state);
+    match step(rt.alloc(), &disk, &mut file, &new.head, &new.note) {
+        Ok(()) => Ok(new.head),
+        Err(why) => Err(why_unmoved(rt, from, state, &disk, &new, why)),
+    }
 }
 
-// The seconds since 1970. A witness states them, so a clock that stands before is refused.
-fn seconds_now(rt: &HostRuntime) -> Result<u64, Stop> {
+/// Returns the seconds since 1970. A witness states them, so a clock that stands before is refused.
+pub fn seconds_now(rt: &HostRuntime) -> Result<u64, Stop> {
     match SystemTime::now(rt)?.duration_since(UNIX_EPOCH) {
         Ok(time) => Ok(time.as_secs()),
         Err(_) => Err(Stop::Clock),
@@ -340,12 +366,12 @@ fn seconds_now(rt: &HostRuntime) -> Result<u64, Stop> {
 }
 
 /// Moves a witness's state on as `follow`, and returns the checkpoint with the witness's signature and the time. The state is there. It
-/// moves once the checkpoint is signed, and nothing is returned before that is on the disk.
-pub fn witness(
-    rt: &HostRuntime,
-    from: &Source,
-    state: Name,
-    key_file: Name,
+/// moves once the checkpoint is signed, and nothing is returned before that is on the disk (`log_checkpoints::witness_checkpoint`).
+pub fn witness<'a>(
+    rt: &'a HostRuntime,
+    from: &Source<'a>,
+    state: Name<'a>,
+    key_file: Name<'a>,
 ) -> Result<Vec<u8>, StopAt> {
     let text = key_file_bytes(rt, key_file)?;
     let cosigner = match Cosigner::read(rt.alloc(), without_feed(&text)) {
@@ -354,16 +380,17 @@ pub fn witness(
     };
     let _lock = placed(state.place, locked_state(rt, state.text, false))?;
     let new = placed(from.folder.place, read_checkpoint(rt, from))?;
-    let note = match cosign(
-        rt.alloc(),
-        &new.note,
-        &from.key,
-        &cosigner,
-        seconds_now(rt)?,
-    ) {
-        Ok(note) => note,
-        Err(fault) => return Err(Stop::from(fault).at(from.folder.place)),
+    let disk = log_in_folder(rt, from.folder.text, &new.head)?;
+    let mut file = state_file(rt, from, state);
+    let who = Witness {
+        policy: from.policy,
+        origin: from.origin,
+        key: cosigner,
     };
-    move_on(rt, from, state, &new)?;
-    Ok(note)
+    let time = seconds_now(rt)?;
+    match witness_checkpoint(rt.alloc(), &disk, &mut file, &new.note, &who, time) {
+        Ok(note) => Ok(note),
+        Err(Unwitnessed::Note(fault)) => Err(Stop::from(fault).at(from.folder.place)),
+        Err(Unwitnessed::Unmoved(why)) => Err(why_unmoved(rt, from, state, &disk, &new, why)),
+    }
 }

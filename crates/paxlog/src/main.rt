@@ -17,7 +17,10 @@ mod progress;
 mod published_folder;
 mod publishing;
 mod reading;
+mod replying;
 mod saying;
+mod signed;
+mod signers;
 mod stop;
 mod store;
 mod streams;
@@ -26,25 +29,19 @@ mod words;
 mod writing;
 
 use crate::appending::{append_files, append_lines, bytes_of_file};
-use crate::checkpoints::verifier;
 use crate::complaints::complain;
-use crate::followers::Source;
 use crate::patience::Patience;
 use crate::picture::{image_of, picture_text};
-use crate::saying::{
-    say, say_audited, say_checkpoint, say_head, say_index, say_proof, say_receipt, say_recovered,
-    say_root, say_verdict,
-};
+use crate::saying::{say, say_head, say_index, say_proof, say_recovered, say_root, say_verdict};
 use crate::stop::{Stop, StopAt, placed};
 use crate::words::{folder_name, name_of_word, origin_of, words_behind_name};
 use ark_trees::digest_of_entry;
-use log_checkpoints::write_receipt;
 use log_file::fault::Fault;
 use log_store::InclusionProof;
 use paxlog_run::replies::line_of;
 use paxlog_run::request::{
-    Continuation, Entries, Inclusion, Keyed, Misuse, Request, Site, Waiting, Word, bytes_at,
-    request_of_words, waiting_in,
+    Continuation, Inclusion, Keyed, Misuse, Request, Waiting, Word, bytes_at, request_of_words,
+    waiting_in,
 };
 use paxlog_run::verdicts::{check_consistency, check_inclusion};
 use std::process::ExitCode;
@@ -203,38 +200,6 @@ fn checkpoint_command(
     say(rt, &checkpoints::sign_log(rt, log, key_file, origin)?)
 }
 
-// What the checkpoint of a file states, where a key signed it.
-fn verify_checkpoint(
-    rt: &HostRuntime,
-    words: &[Vec<u8>],
-    key: Word,
-    file: Word,
-    origin: Option<Word>,
-) -> Result<u8, StopAt> {
-    let origin = origin_of(words, origin)?;
-    let key = verifier(rt.alloc(), words, key)?;
-    let note = bytes_of_file(rt, words, file)?;
-    say_checkpoint(rt, checkpoints::opened(rt.alloc(), &key, &note, origin))
-}
-
-// What a receipt shows of an entry, where a key signed its checkpoint.
-fn verify_receipt_command(
-    rt: &HostRuntime,
-    words: &[Vec<u8>],
-    site: (Word, Option<Word>),
-    file: Word,
-    receipt: Word,
-) -> Result<u8, StopAt> {
-    let origin = origin_of(words, site.1)?;
-    let key = verifier(rt.alloc(), words, site.0)?;
-    let entry = bytes_of_file(rt, words, file)?;
-    let receipt = bytes_of_file(rt, words, receipt)?;
-    say_receipt(
-        rt,
-        checkpoints::shown(rt.alloc(), &key, &receipt, &entry, origin),
-    )
-}
-
 // Writes the tiles of a log to a folder.
 fn tiles(
     rt: &HostRuntime,
@@ -247,88 +212,6 @@ fn tiles(
     let (log, folder) = (name_of_word(words, log)?, folder_name(words, folder)?);
     let key_file = name_of_word(words, keyed.key_file)?;
     say_head(rt, &publishing::publish(rt, log, folder, key_file, origin)?)
-}
-
-// The folder of tiles that words name, the key and the origin.
-fn source_of<'a>(
-    rt: &HostRuntime,
-    words: &'a [Vec<u8>],
-    site: &Site,
-) -> Result<Source<'a>, StopAt> {
-    let origin = origin_of(words, site.origin)?;
-    let key = verifier(rt.alloc(), words, site.key)?;
-    let folder = folder_name(words, site.folder)?;
-    Ok(Source {
-        folder,
-        key,
-        origin,
-    })
-}
-
-// Whether the tiles of a folder are those of its checkpoint.
-fn audit_command(rt: &HostRuntime, words: &[Vec<u8>], site: &Site) -> Result<u8, StopAt> {
-    let from = source_of(rt, words, site)?;
-    match placed(from.folder.place, followers::audit_folder(rt, &from))? {
-        Some(found) => say_audited(rt, &found),
-        None => say_verdict(rt, false),
-    }
-}
-
-// Keeps the entries of a log in a folder.
-fn keep_command(
-    rt: &HostRuntime,
-    words: &[Vec<u8>],
-    site: &Site,
-    entries: Entries,
-    first: Option<usize>,
-) -> Result<u8, StopAt> {
-    let from = source_of(rt, words, site)?;
-    say_head(
-        rt,
-        &followers::keep_in_folder(rt, &from, words, entries, first)?,
-    )
-}
-
-// Moves a follower's state on.
-fn follow(rt: &HostRuntime, words: &[Vec<u8>], site: &Site, state: Word) -> Result<u8, StopAt> {
-    let from = source_of(rt, words, site)?;
-    let state = folder_name(words, state)?;
-    say_head(rt, &followers::follow(rt, &from, state)?)
-}
-
-// Moves a witness's state on, and signs.
-fn witness(
-    rt: &HostRuntime,
-    words: &[Vec<u8>],
-    site: &Site,
-    state: Word,
-    key_file: Word,
-) -> Result<u8, StopAt> {
-    let from = source_of(rt, words, site)?;
-    let state = folder_name(words, state)?;
-    let key_file = name_of_word(words, key_file)?;
-    say(rt, &followers::witness(rt, &from, state, key_file)?)
-}
-
-// The inclusion proof of an entry by the tiles of a folder, as a receipt or alone.
-fn tile_proof(
-    rt: &HostRuntime,
-    words: &[Vec<u8>],
-    site: &Site,
-    index: usize,
-    is_receipt: bool,
-) -> Result<u8, StopAt> {
-    let from = source_of(rt, words, site)?;
-    let proof = placed(
-        from.folder.place,
-        followers::prove_in_folder(rt, &from, index),
-    )?;
-    let line = if is_receipt {
-        write_receipt(rt.alloc(), index, &proof.path, &proof.note)?
-    } else {
-        line_of(rt.alloc(), &proof.path)?
-    };
-    say(rt, &line)
 }
 
 // How the command is used, or one of its commands.
@@ -386,33 +269,40 @@ fn carry_out(rt: &HostRuntime, request: Request, words: &[Vec<u8>]) -> Result<u8
             is_witness,
         } => keygen(rt, words, name, key_file, is_witness),
         Request::Checkpoint { log, keyed } => checkpoint_command(rt, words, log, &keyed),
-        Request::VerifyCheckpoint { key, file, origin } => {
-            verify_checkpoint(rt, words, key, file, origin)
-        }
+        Request::VerifyCheckpoint {
+            signers,
+            file,
+            origin,
+        } => signed::verify_checkpoint(rt, words, signers, file, origin),
         Request::Tiles { log, folder, keyed } => tiles(rt, words, log, folder, &keyed),
-        Request::Audit { site } => audit_command(rt, words, &site),
+        Request::Audit { site } => signed::audit_command(rt, words, &site),
         Request::Keep {
             site,
             entries,
             from,
-        } => keep_command(rt, words, &site, entries, from),
-        Request::Follow { site, state } => follow(rt, words, &site, state),
+        } => signed::keep_command(rt, words, &site, entries, from),
+        Request::Follow { site, state } => signed::follow(rt, words, &site, state),
         Request::TileProof {
             site,
             index,
             is_receipt,
-        } => tile_proof(rt, words, &site, index, is_receipt),
+        } => signed::tile_proof(rt, words, &site, index, is_receipt),
         Request::VerifyReceipt {
-            key,
+            signers,
             file,
             receipt,
             origin,
-        } => verify_receipt_command(rt, words, (key, origin), file, receipt),
+        } => signed::verify_receipt_command(rt, words, (signers, origin), file, receipt),
         Request::Witness {
             site,
             state,
             key_file,
-        } => witness(rt, words, &site, state, key_file),
+        } => signed::witness(rt, words, &site, state, key_file),
+        Request::WitnessRequest {
+            signers,
+            state,
+            keyed,
+        } => signed::witness_reply(rt, words, signers, state, &keyed),
         Request::Help { command } => help(rt, words, command),
         Request::Version => say(rt, VERSION.as_bytes()),
     }

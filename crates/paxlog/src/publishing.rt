@@ -5,7 +5,7 @@ ghost use Rattle.log_file.specs.LogFile.{file_end};
 
 use crate::checkpoints::{note_of, signed_by};
 use crate::file_disk::FileDisk;
-use crate::followers::{checkpoint_name, log_in_folder, nothing, stated_by_note};
+use crate::followers::{checkpoint_name, log_in_folder, nothing, stated_by_signer};
 use crate::published_folder::PublishedFolder;
 use crate::reading::key_file_bytes;
 use crate::stop::{Stop, StopAt, placed};
@@ -246,7 +246,7 @@ pub fn publish(
     // what the checkpoint says is read once no other process writes another
     let _lock = placed(folder.place, locked_folder(rt, folder.text))?;
     let checkpoint = checkpoint_name(rt, folder.text)?;
-    let stated = stated_by_note(rt, &signer.verifier(), checkpoint.as_str(), origin);
+    let stated = stated_by_signer(rt, &signer, checkpoint.as_str(), origin);
     let old = placed(folder.place, stated)?;
     let mut into = PublishedFolder::new(rt, folder.text);
     let written = write_meanwhile(rt, old, log, folder, &mut into)?;

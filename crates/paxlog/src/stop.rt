@@ -4,6 +4,7 @@ use crate::folders::TileFault;
 use log_file::fault::Fault;
 use log_tiles::{Unfollowed, Unread};
 use paxlog_run::request::Misuse;
+use signed_notes::{PolicyFault, PolicyFaultAt};
 use std::alloc::{AllocError, AllocFailed};
 use std::fs::TryLockError;
 use std::io;
@@ -23,6 +24,8 @@ pub enum Stop {
     Fault(Fault),
     /// A note or a key is none.
     Note(signed_notes::Fault),
+    /// A policy file is none.
+    Policy(PolicyFaultAt),
     /// A tile was not read.
     Tile(TileFault),
     /// Entries that are called so are not the log's.
@@ -203,6 +206,15 @@ impl From<signed_notes::Fault> for Stop {
         match fault {
             signed_notes::Fault::Memory => Stop::Fault(Fault::Memory),
             other => Stop::Note(other),
+        }
+    }
+}
+
+impl From<PolicyFaultAt> for Stop {
+    fn from(fault: PolicyFaultAt) -> Stop {
+        match fault.why {
+            PolicyFault::Note(signed_notes::Fault::Memory) => Stop::Fault(Fault::Memory),
+            _ => Stop::Policy(fault),
         }
     }
 }

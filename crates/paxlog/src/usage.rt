@@ -4,7 +4,7 @@ use crate::stop::Stop;
 use std::alloc::Global;
 
 // The words of each command, behind `paxlog`.
-const LINES: [&str; 28] = [
+const LINES: [&str; 29] = [
     "append LOG [--after SIZE ROOT] [--wait SECONDS] [--keep FOLDER] [--] FILE ..",
     "append-lines LOG [--after SIZE ROOT] [--wait SECONDS] [--keep FOLDER] [--batch COUNT [--publish FOLDER --key KEYFILE [--origin ORIGIN] [--every MILLISECONDS]]] [--] FILE",
     "root LOG [SIZE]",
@@ -20,17 +20,18 @@ const LINES: [&str; 28] = [
     "keygen NAME KEYFILE",
     "keygen-witness NAME KEYFILE",
     "checkpoint LOG --key KEYFILE [--origin ORIGIN] [--wait SECONDS]",
-    "verify-checkpoint KEY FILE [ORIGIN]",
+    "verify-checkpoint KEY|--policy POLICY FILE [ORIGIN]",
     "tiles LOG FOLDER --key KEYFILE [--origin ORIGIN] [--wait SECONDS]",
-    "audit FOLDER KEY [ORIGIN]",
+    "audit FOLDER KEY|--policy POLICY [ORIGIN]",
     "keep FOLDER KEY FILE [ORIGIN] [--from INDEX] [--wait SECONDS]",
     "keep-bundles FOLDER KEY FILE [ORIGIN] [--from INDEX] [--wait SECONDS]",
     "keep-files FOLDER KEY [--origin ORIGIN] FILE .. [--from INDEX] [--wait SECONDS]",
-    "follow FOLDER KEY STATE [ORIGIN] [--wait SECONDS]",
-    "tile-proof FOLDER KEY INDEX [ORIGIN]",
-    "receipt FOLDER KEY INDEX [ORIGIN]",
-    "verify-receipt KEY FILE RECEIPT [ORIGIN]",
-    "witness FOLDER KEY STATE --key KEYFILE [--origin ORIGIN] [--wait SECONDS]",
+    "follow FOLDER KEY|--policy POLICY STATE [ORIGIN] [--wait SECONDS]",
+    "tile-proof FOLDER KEY|--policy POLICY INDEX [ORIGIN]",
+    "receipt FOLDER KEY|--policy POLICY INDEX [ORIGIN]",
+    "verify-receipt KEY|--policy POLICY FILE RECEIPT [ORIGIN]",
+    "witness FOLDER KEY|--policy POLICY STATE --key KEYFILE [--origin ORIGIN] [--wait SECONDS]",
+    "witness-request KEY|--policy POLICY STATE --key KEYFILE [--origin ORIGIN]",
     "help [COMMAND]",
     "-h | --help | --version",
 ];

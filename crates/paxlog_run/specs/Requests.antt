@@ -13,10 +13,13 @@ use Rattle.paxlog_run.specs.declared.request.appends.OptionsAt.{OptionsAt}
 use Rattle.paxlog_run.specs.declared.request.Keyed.{Keyed}
 use Rattle.paxlog_run.specs.declared.request.Publication.{Publication}
 use Rattle.paxlog_run.specs.declared.request.waits.Waiting.{Waiting}
+use Rattle.paxlog_run.specs.declared.request.Signers.{Signers}
+use Rattle.paxlog_run.specs.declared.request.Signers.TheVariants.{Key, Policy}
+use Rattle.paxlog_run.specs.declared.request.parts.SignersAt.{SignersAt}
 use Rattle.paxlog_run.specs.declared.request.Site.{Site}
 use Rattle.paxlog_run.specs.declared.request.Entries.TheVariants.{Lines, Bundles, Files}
 use Rattle.paxlog_run.specs.declared.request.keeps.FromAt.{FromAt}
-use Rattle.paxlog_run.specs.declared.request.Request.TheVariants.{Append, AppendLines, Root, Prove, Show, Consistency, Check, Find, Recover, Verify, VerifyConsistency, Keygen, Checkpoint, VerifyCheckpoint, Tiles, Audit, Follow, Keep, TileProof, VerifyReceipt, Witness, Help, Version}
+use Rattle.paxlog_run.specs.declared.request.Request.TheVariants.{Append, AppendLines, Root, Prove, Show, Consistency, Check, Find, Recover, Verify, VerifyConsistency, Keygen, Checkpoint, VerifyCheckpoint, Tiles, Audit, Follow, Keep, TileProof, VerifyReceipt, Witness, WitnessRequest, Help, Version}
 
 -- the digest that a word spells in hexadecimal
 abbrev pub digest_in_hex : List ℕ → Option Digest
@@ -75,9 +78,20 @@ keyed_at words place = do
       else if length words == place + 3 then Err TooFew
       else Ok (record { key_file = typed_at (place + 1); origin = Some (typed_at (place + 3)) })
 
+-- FOLDER, the word behind the command's own, with who has to sign and the origin
+abbrev pub site_by : Signers → Option Word → Site
+site_by signers origin = record { folder = typed_at 1; signers = signers; origin = origin }
+
 -- FOLDER KEY, the words behind the command's own, and the origin
 abbrev pub site_at : Option Word → Site
-site_at origin = record { folder = typed_at 1; key = typed_at 2; origin = origin }
+site_at origin = site_by (Key (typed_at 2)) origin
+
+-- who has to sign, by the words at a place, and the place behind them: --policy FILE, or KEY
+abbrev pub signers_at : List (List ℕ) → ℕ → SignersAt
+signers_at words place =
+    if bytes_eq (get_or words place []) (codes "--policy")
+    then record { signers = Policy (typed_at (place + 1)); next = place + 2 }
+    else record { signers = Key (typed_at place); next = place + 1 }
 
 -- root LOG [SIZE]; the command's name of it stands at place 0
 abbrev pub root_request : List (List ℕ) → Read Request
@@ -303,11 +317,12 @@ checkpoint_request words = do
   keyed ← keyed_at words 2
   Ok (Checkpoint (typed_at 1) keyed)
 
--- verify-checkpoint KEY FILE [ORIGIN]
+-- verify-checkpoint SIGNERS FILE [ORIGIN]; here and below SIGNERS is --policy FILE, or KEY
 abbrev pub verify_checkpoint_request : List (List ℕ) → Read Request
-verify_checkpoint_request words = do
-  count ← counted words 3 4
-  Ok (VerifyCheckpoint (typed_at 1) (typed_at 2) (origin_at words 3))
+verify_checkpoint_request words =
+    let at = signers_at words 1 in do
+      count ← counted words (at.next + 1) (at.next + 2)
+      Ok (VerifyCheckpoint at.signers (typed_at at.next) (origin_at words (at.next + 1)))
 
 -- tiles LOG FOLDER --key KEYFILE [--origin ORIGIN]
 abbrev pub tiles_request : List (List ℕ) → Read Request
@@ -315,11 +330,12 @@ tiles_request words = do
   keyed ← keyed_at words 3
   Ok (Tiles (typed_at 1) (typed_at 2) keyed)
 
--- audit FOLDER KEY [ORIGIN]
+-- audit FOLDER SIGNERS [ORIGIN]
 abbrev pub audit_request : List (List ℕ) → Read Request
-audit_request words = do
-  count ← counted words 3 4
-  Ok (Audit (site_at (origin_at words 3)))
+audit_request words =
+    let at = signers_at words 2 in do
+      count ← counted words at.next (at.next + 1)
+      Ok (Audit (site_by at.signers (origin_at words at.next)))
 
 -- how many words stand before --from INDEX at their end, and the index: all and none where it does not stand there
 abbrev pub from_in : List (List ℕ) → Read FromAt
@@ -351,30 +367,41 @@ keep_files_request words = do
       else if nat_lt 3 at.count then Ok (Keep (site_at None) (Files 3 at.count) at.from)
       else Err TooFew
 
--- follow FOLDER KEY STATE [ORIGIN]
+-- follow FOLDER SIGNERS STATE [ORIGIN]
 abbrev pub follow_request : List (List ℕ) → Read Request
-follow_request words = do
-  count ← counted words 4 5
-  Ok (Follow (site_at (origin_at words 4)) (typed_at 3))
+follow_request words =
+    let at = signers_at words 2 in do
+      count ← counted words (at.next + 1) (at.next + 2)
+      Ok (Follow (site_by at.signers (origin_at words (at.next + 1))) (typed_at at.next))
 
--- tile-proof FOLDER KEY INDEX [ORIGIN], or receipt
+-- tile-proof FOLDER SIGNERS INDEX [ORIGIN], or receipt
 abbrev pub tile_proof_request : List (List ℕ) → Bool → Read Request
-tile_proof_request words is_receipt = do
-  count ← counted words 4 5
-  index ← number_word_at words 3
-  Ok (TileProof (site_at (origin_at words 4)) index is_receipt)
+tile_proof_request words is_receipt =
+    let at = signers_at words 2 in do
+      count ← counted words (at.next + 1) (at.next + 2)
+      index ← number_word_at words at.next
+      Ok (TileProof (site_by at.signers (origin_at words (at.next + 1))) index is_receipt)
 
--- verify-receipt KEY FILE RECEIPT [ORIGIN]
+-- verify-receipt SIGNERS FILE RECEIPT [ORIGIN]
 abbrev pub verify_receipt_request : List (List ℕ) → Read Request
-verify_receipt_request words = do
-  count ← counted words 4 5
-  Ok (VerifyReceipt (typed_at 1) (typed_at 2) (typed_at 3) (origin_at words 4))
+verify_receipt_request words =
+    let at = signers_at words 1 in do
+      count ← counted words (at.next + 2) (at.next + 3)
+      Ok (VerifyReceipt at.signers (typed_at at.next) (typed_at (at.next + 1)) (origin_at words (at.next + 2)))
 
--- witness FOLDER KEY STATE --key KEYFILE [--origin ORIGIN]
+-- witness FOLDER SIGNERS STATE --key KEYFILE [--origin ORIGIN]
 abbrev pub witness_request : List (List ℕ) → Read Request
-witness_request words = do
-  keyed ← keyed_at words 4
-  Ok (Witness (site_at keyed.origin) (typed_at 3) keyed.key_file)
+witness_request words =
+    let at = signers_at words 2 in do
+      keyed ← keyed_at words (at.next + 1)
+      Ok (Witness (site_by at.signers keyed.origin) (typed_at at.next) keyed.key_file)
+
+-- witness-request SIGNERS STATE --key KEYFILE [--origin ORIGIN]
+abbrev pub witness_reply_request : List (List ℕ) → Read Request
+witness_reply_request words =
+    let at = signers_at words 1 in do
+      keyed ← keyed_at words (at.next + 1)
+      Ok (WitnessRequest at.signers (typed_at at.next) keyed)
 
 -- what is asked for by a word about folders of tiles, the first of all
 unfoldable pub asked_of_tiles : List ℕ → List (List ℕ) → Read Request
@@ -389,6 +416,7 @@ asked_of_tiles word words =
     else if bytes_eq word (codes "receipt") then tile_proof_request words true
     else if bytes_eq word (codes "verify-receipt") then verify_receipt_request words
     else if bytes_eq word (codes "witness") then witness_request words
+    else if bytes_eq word (codes "witness-request") then witness_reply_request words
     else Err (NoCommand 0)
 
 -- what is asked for by a word about checkpoints, the first of all

@@ -76,11 +76,20 @@ pub struct Publication {
     pub every: usize,
 }
 
-/// The folder of a log's tiles, the key that signed its checkpoint, and the origin, where one is named.
+/// Who has to sign a checkpoint.
+#[derive(Clone, Copy)]
+pub enum Signers {
+    /// The key of the log.
+    Key(Word),
+    /// Who the policy file says.
+    Policy(Word),
+}
+
+/// The folder of a log's tiles, who has to sign its checkpoint, and the origin, where one is named.
 #[derive(Clone, Copy)]
 pub struct Site {
     pub folder: Word,
-    pub key: Word,
+    pub signers: Signers,
     pub origin: Option<Word>,
 }
 
@@ -158,7 +167,7 @@ pub enum Request {
         keyed: Keyed,
     },
     VerifyCheckpoint {
-        key: Word,
+        signers: Signers,
         file: Word,
         origin: Option<Word>,
     },
@@ -187,7 +196,7 @@ pub enum Request {
         is_receipt: bool,
     },
     VerifyReceipt {
-        key: Word,
+        signers: Signers,
         file: Word,
         receipt: Word,
         origin: Option<Word>,
@@ -196,6 +205,12 @@ pub enum Request {
         site: Site,
         state: Word,
         key_file: Word,
+    },
+    /// What a witness replies to the request on standard input.
+    WitnessRequest {
+        signers: Signers,
+        state: Word,
+        keyed: Keyed,
     },
     /// How the command is used, or one of its commands.
     Help {

@@ -1,9 +1,9 @@
 //! Words at their places: counted, and read as numbers, digests, options and origins.
 
-ghost use Rattle.std.specs.Prelude.{◌≡◌, ◌≤◌, map, vec_items};
-ghost use Rattle.paxlog_run.specs.Requests.{counted, digest_word_at, digest_in_hex, keyed_at, number_word_at, origin_at, site_at, size_at, typed_at};
+ghost use Rattle.std.specs.Prelude.{◌≡◌, ◌+◌, ◌≤◌, map, vec_items};
+ghost use Rattle.paxlog_run.specs.Requests.{counted, digest_word_at, digest_in_hex, keyed_at, number_word_at, origin_at, signers_at, site_at, site_by, size_at, typed_at};
 
-use crate::request::{Keyed, Misuse, Site, Word, bytes_at};
+use crate::request::{Keyed, Misuse, Signers, Site, Word, bytes_at};
 use decimals::decimal_number;
 
 // The digest that a word spells in hexadecimal.
@@ -80,20 +80,53 @@ pub fn counted(words: &[Vec<u8>], least: usize, most: usize) -> Result<usize, Mi
     }
 }
 
-/// Returns FOLDER and KEY, the words behind the command's own, and the origin.
-pub fn site_at(origin: Option<Word>) -> Site
-    ensures { result ≡ site_at origin }
+/// Who has to sign, and the place behind the words that say it.
+#[derive(Clone, Copy)]
+pub struct SignersAt {
+    pub signers: Signers,
+    pub next: usize,
+}
+
+/// Returns who has to sign, by the words at a place: `--policy FILE`, or KEY.
+pub fn signers_at(words: &[Vec<u8>], place: usize) -> SignersAt
+    requires { place ≤ 2 }
+    ensures signers { result ≡ signers_at (map vec_items words.now) place }
+    ensures near { result.next ≤ place + 2 }
+{
+    if bytes_at(words, place) == b"--policy".as_slice() {
+        SignersAt {
+            signers: Signers::Policy(typed_at(place + 1)),
+            next: place + 2,
+        }
+    } else {
+        SignersAt {
+            signers: Signers::Key(typed_at(place)),
+            next: place + 1,
+        }
+    }
+}
+
+/// Returns FOLDER, the word behind the command's own, with who has to sign and the origin.
+pub fn site_by(signers: Signers, origin: Option<Word>) -> Site
+    ensures { result ≡ site_by signers origin }
 {
     Site {
         folder: typed_at(1),
-        key: typed_at(2),
+        signers,
         origin,
     }
 }
 
+/// Returns FOLDER and KEY, the words behind the command's own, and the origin.
+pub fn site_at(origin: Option<Word>) -> Site
+    ensures { result ≡ site_at origin }
+{
+    site_by(Signers::Key(typed_at(2)), origin)
+}
+
 /// Returns the words behind the options at a place: one for a key, and behind it one for an origin, where there is one.
 pub fn keyed_at(words: &[Vec<u8>], place: usize) -> Result<Keyed, Misuse>
-    requires { place ≤ 4 }
+    requires { place ≤ 5 }
     ensures { result ≡ keyed_at (map vec_items words.now) place }
 {
     counted(words, place + 2, place + 4)?;

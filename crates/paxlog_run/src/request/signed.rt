@@ -1,10 +1,12 @@
 //! What is asked for by words about checkpoints and tiles.
 
 ghost use Rattle.std.specs.Prelude.{◌≡◌, map, vec_items};
-ghost use Rattle.paxlog_run.specs.Requests.{asked_of_checkpoints, asked_of_tiles, audit_request, checkpoint_request, follow_request, keygen_request, tile_proof_request, tiles_request, verify_checkpoint_request, verify_receipt_request, witness_request};
+ghost use Rattle.paxlog_run.specs.Requests.{asked_of_checkpoints, asked_of_tiles, audit_request, checkpoint_request, follow_request, keygen_request, tile_proof_request, tiles_request, verify_checkpoint_request, verify_receipt_request, witness_reply_request, witness_request};
 
 use crate::request::keeps::{keep_files_request, keep_request};
-use crate::request::parts::{counted, keyed_at, number_word_at, origin_at, site_at, typed_at};
+use crate::request::parts::{
+    counted, keyed_at, number_word_at, origin_at, signers_at, site_by, typed_at,
+};
 use crate::request::{Keyed, Misuse, Request};
 
 // The new key that is asked for.
@@ -33,11 +35,12 @@ fn checkpoint_request(words: &[Vec<u8>]) -> Result<Request, Misuse>
 fn verify_checkpoint_request(words: &[Vec<u8>]) -> Result<Request, Misuse>
     ensures { result ≡ verify_checkpoint_request (map vec_items words.now) }
 {
-    counted(words, 3, 4)?;
+    let at = signers_at(words, 1);
+    counted(words, at.next + 1, at.next + 2)?;
     Ok(Request::VerifyCheckpoint {
-        key: typed_at(1),
-        file: typed_at(2),
-        origin: origin_at(words, 3),
+        signers: at.signers,
+        file: typed_at(at.next),
+        origin: origin_at(words, at.next + 1),
     })
 }
 
@@ -56,9 +59,10 @@ fn tiles_request(words: &[Vec<u8>]) -> Result<Request, Misuse>
 fn audit_request(words: &[Vec<u8>]) -> Result<Request, Misuse>
     ensures { result ≡ audit_request (map vec_items words.now) }
 {
-    counted(words, 3, 4)?;
+    let at = signers_at(words, 2);
+    counted(words, at.next, at.next + 1)?;
     Ok(Request::Audit {
-        site: site_at(origin_at(words, 3)),
+        site: site_by(at.signers, origin_at(words, at.next)),
     })
 }
 
@@ -66,10 +70,11 @@ fn audit_request(words: &[Vec<u8>]) -> Result<Request, Misuse>
 fn follow_request(words: &[Vec<u8>]) -> Result<Request, Misuse>
     ensures { result ≡ follow_request (map vec_items words.now) }
 {
-    counted(words, 4, 5)?;
+    let at = signers_at(words, 2);
+    counted(words, at.next + 1, at.next + 2)?;
     Ok(Request::Follow {
-        site: site_at(origin_at(words, 4)),
-        state: typed_at(3),
+        site: site_by(at.signers, origin_at(words, at.next + 1)),
+        state: typed_at(at.next),
     })
 }
 
@@ -77,10 +82,11 @@ fn follow_request(words: &[Vec<u8>]) -> Result<Request, Misuse>
 fn tile_proof_request(words: &[Vec<u8>], is_receipt: bool) -> Result<Request, Misuse>
     ensures { result ≡ tile_proof_request (map vec_items words.now) is_receipt }
 {
-    counted(words, 4, 5)?;
+    let at = signers_at(words, 2);
+    counted(words, at.next + 1, at.next + 2)?;
     Ok(Request::TileProof {
-        site: site_at(origin_at(words, 4)),
-        index: number_word_at(words, 3)?,
+        site: site_by(at.signers, origin_at(words, at.next + 1)),
+        index: number_word_at(words, at.next)?,
         is_receipt,
     })
 }
@@ -89,12 +95,13 @@ fn tile_proof_request(words: &[Vec<u8>], is_receipt: bool) -> Result<Request, Mi
 fn verify_receipt_request(words: &[Vec<u8>]) -> Result<Request, Misuse>
     ensures { result ≡ verify_receipt_request (map vec_items words.now) }
 {
-    counted(words, 4, 5)?;
+    let at = signers_at(words, 1);
+    counted(words, at.next + 2, at.next + 3)?;
     Ok(Request::VerifyReceipt {
-        key: typed_at(1),
-        file: typed_at(2),
-        receipt: typed_at(3),
-        origin: origin_at(words, 4),
+        signers: at.signers,
+        file: typed_at(at.next),
+        receipt: typed_at(at.next + 1),
+        origin: origin_at(words, at.next + 2),
     })
 }
 
@@ -102,11 +109,24 @@ fn verify_receipt_request(words: &[Vec<u8>]) -> Result<Request, Misuse>
 fn witness_request(words: &[Vec<u8>]) -> Result<Request, Misuse>
     ensures { result ≡ witness_request (map vec_items words.now) }
 {
-    let Keyed { key_file, origin } = keyed_at(words, 4)?;
+    let at = signers_at(words, 2);
+    let Keyed { key_file, origin } = keyed_at(words, at.next + 1)?;
     Ok(Request::Witness {
-        site: site_at(origin),
-        state: typed_at(3),
+        site: site_by(at.signers, origin),
+        state: typed_at(at.next),
         key_file,
+    })
+}
+
+// The reply of a witness that is asked for.
+fn witness_reply_request(words: &[Vec<u8>]) -> Result<Request, Misuse>
+    ensures { result ≡ witness_reply_request (map vec_items words.now) }
+{
+    let at = signers_at(words, 1);
+    Ok(Request::WitnessRequest {
+        signers: at.signers,
+        state: typed_at(at.next),
+        keyed: keyed_at(words, at.next + 1)?,
     })
 }
 
@@ -135,6 +155,8 @@ fn asked_of_tiles(word: &[u8], words: &[Vec<u8>]) -> Result<Request, Misuse>
         verify_receipt_request(words)
     } else if word == b"witness".as_slice() {
         witness_request(words)
+    } else if word == b"witness-request".as_slice() {
+        witness_reply_request(words)
     } else {
         Err(Misuse::NoCommand(0))
     }
