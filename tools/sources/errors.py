@@ -13,6 +13,8 @@ WORDS = {
     "GivesBy": "the error stands for the outcome's or for a lack of memory (merkle_log, Given)",
     "FileGivesBy": "the error is the outcome's or a lack of memory (log_file, Faults)",
     "NoteGivesBy": "the error is the outcome's or a lack of memory (signed_notes, Faults)",
+    "SaysBy": "the error, with its line, is the outcome's or a lack of memory (signed_notes, PolicyFiles)",
+    "PolicyGivesBy": "the error is the outcome's or a lack of memory (signed_notes, PolicyFiles)",
     "CallGivesBy": "the error is the outcome's or a lack of memory (paxidore_c, Answer)",
     "RaisesNeeded": "the error stands for a refusal of the hash or for a lack of memory (merkle_log, Edge)",
     "IsRefusedFor": "a fault is the outcome's, Memory, or Damaged of a damaged file; the rest is the disk's (log_store, Refused)",

@@ -69,8 +69,9 @@ fn beside_at<'a, D: Numbered>(
     depth: usize,
     before: &[&'a D],
 ) -> Option<&'a D>
-    ensures { MatchOption result (Unit {0}) (λ found. IsFoundBeside prefix (map D.numbers suffix.now)
-        depth (map (λ x. D.numbers x.now) before.now) (D.numbers found.now)) }
+    ensures { MatchOption result (Unit {0}) (λ found. IsFoundBeside prefix
+        (map D.numbers suffix.now) depth (map (λ x. D.numbers x.now) before.now)
+        (D.numbers found.now)) }
 {
     if prefix <= depth {
         suffix.get(depth - prefix)
@@ -147,8 +148,10 @@ fn join<'a, X: DigestItem>(
     requires beside { length beside.items ≡ length groups.now.firsts.items }
     requires prefixes { length indexes.now ≤ length prefixes.now }
     requires inside { AreAmongFirst (length indexes.now) groups.now.firsts.items }
-    ensures many { IfOk result (λ joined. length joined.couples.items ≡ length joined.firsts.items) }
-    ensures inside { IfOk result (λ joined. AreAmongFirst (length indexes.now) joined.firsts.items) }
+    ensures many { IfOk result (λ joined.
+        length joined.couples.items ≡ length joined.firsts.items) }
+    ensures inside { IfOk result (λ joined.
+        AreAmongFirst (length indexes.now) joined.firsts.items) }
     ensures joined { IfOk result (λ joined. (above : List (List Digest))
         → AreGroups above prefixes.now (suc shared) groups.now.firsts.items
         → AreGroups above prefixes.now shared joined.firsts.items
@@ -202,8 +205,10 @@ fn lowest_groups<L: DigestItem, D: DigestItem, T: TreeHasher<L, D>>(
     requires digests { length digests.items ≡ length indexes.now }
     requires siblings { length siblings.now ≡ length indexes.now }
     requires prefixes { length indexes.now ≤ length prefixes.now }
-    ensures many { IfOk result (λ groups. length groups.digests.items ≡ length groups.firsts.items) }
-    ensures inside { IfOk result (λ groups. AreAmongFirst (length indexes.now) groups.firsts.items) }
+    ensures many { IfOk result (λ groups.
+        length groups.digests.items ≡ length groups.firsts.items) }
+    ensures inside { IfOk result (λ groups.
+        AreAmongFirst (length indexes.now) groups.firsts.items) }
     ensures groups { IfOk result (λ groups. (above suffixes : List (List Digest))
         → ArePaths above prefixes.now suffixes (length indexes.now) len
         → AreGroups above prefixes.now len groups.firsts.items
