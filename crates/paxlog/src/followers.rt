@@ -64,7 +64,8 @@ pub fn stated_by_note(
     }
 }
 
-/// The same of a file that the log of a signer signed. The origin is the name of its key where no other is named.
+/// Returns what the note of a file states, where this signer's key signed it; that the log had no entry, where there is no such file.
+/// The origin is the name of the key where no other is named.
 pub fn stated_by_signer(
     rt: &HostRuntime,
     signer: &Signer,
