@@ -1,8 +1,10 @@
 pub mod Answering
+pub mod Blocks
 pub mod Codes
 pub mod Hashed
 pub mod HeadLogs
 pub mod Cutting
+pub mod Drawing
 pub mod Keeping
 pub mod KeptGiven
 pub mod KeptLogs

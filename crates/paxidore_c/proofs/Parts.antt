@@ -7,7 +7,7 @@ use Rattle.paxidore_c.specs.Answer.{tree_leaves_in}
 use Rattle.paxidore_c.specs.Cut.{parts_by}
 
 -- as many parts as lengths
-parts-count : (bytes lengths : List ℕ) (parts : List (List ℕ)) → parts_by bytes lengths ≡ Some parts
+pub parts-count : (bytes lengths : List ℕ) (parts : List (List ℕ)) → parts_by bytes lengths ≡ Some parts
     → length parts ≡ length lengths
 parts-count bytes [] parts is = by_rest (nat_lt 0 (length bytes)) is
   where

@@ -1,4 +1,5 @@
 pub mod Answer
+pub mod Blocks
 pub mod Cut
 pub mod Forms
 pub mod Hashing

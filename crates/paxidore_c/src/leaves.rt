@@ -1,6 +1,6 @@
 //! Leaves that stand one behind the other.
 
-ghost use Rattle.std.specs.Prelude.{◌≡◌, ◌<◌, ◌≤◌, ◌+◌, ◌++◌, ◌∷◌, None, length, take, drop, map, nat_lt, true, IfOk, IfSome, MatchOption};
+ghost use Rattle.std.specs.Prelude.{◌≡◌, ◌<◌, ◌≤◌, ◌+◌, ◌++◌, ◌∷◌, None, Some, length, take, drop, map, nat_lt, true, IfOk, IfSome, MatchOption};
 ghost use Rattle.std.specs.Option.{is_some, option_map};
 ghost use Rattle.std.specs.List.{All, list_all};
 ghost use Rattle.ark_paths.specs.Index.{IsTreeSize};
@@ -53,7 +53,8 @@ fn next_run<'a>(
 ) -> Option<([&'a [u8]; 64], &'a [u8])>
     requires run { count ≤ 64 }
     requires inside { place + count ≤ length lengths.now }
-    ensures { let parts = parts_by bytes.now (drop place lengths.now) in
+    ensures long { IfSome result (λ next. length next.0 ≡ 64) }
+    ensures cut { let parts = parts_by bytes.now (drop place lengths.now) in
         MatchOption result (parts ≡ None)
         (λ next. parts ≡ option_map (λ others. lent (take count next.0) ++ others)
         (parts_by next.1.now (drop (place + count) lengths.now))) }
@@ -94,6 +95,37 @@ fn write_run<H: ArrayHash>(digests: &mut [[u8; 32]], place: usize, leaves: &[&[u
     H::leaves(leaves, &mut digests[place..place + count]);
 }
 
+/// Writes the digests of so many leaves from a place on, where the lengths from there on are those of parts that are all of the bytes,
+/// and returns the bytes behind these leaves.
+pub(crate) fn write_digests_from<'a, H: ArrayHash>(
+    digests: &mut [[u8; 32]],
+    bytes: &'a [u8],
+    lengths: &[usize],
+    first: usize,
+) -> &'a [u8]
+    requires { first + length digests.old ≤ length lengths.now }
+    ensures long { length digests.new ≡ length digests.old }
+    ensures digests { IfSome (parts_by bytes.now (drop first lengths.now)) (λ xs.
+        digests.new ≡ map H.leaf_hash (take (length digests.old) xs)) }
+    ensures rest { IfSome (parts_by bytes.now (drop first lengths.now)) (λ xs.
+        parts_by result.now (drop (first + length digests.old) lengths.now)
+        ≡ Some (drop (length digests.old) xs)) }
+{
+    let mut rest = bytes;
+    let mut place = 0;
+    'runs: while place < digests.len() {
+        let count = (digests.len() - place).min(RUN);
+        let Some(next) = next_run(rest, lengths, first + place, count) else {
+            return rest;
+        };
+        let run = next.0;
+        write_run::<H>(digests, place, &run[..count], count);
+        rest = next.1;
+        place += count;
+    }
+    rest
+}
+
 /// Writes the digests of the leaves, where the lengths are those of parts that are all of the bytes.
 pub(crate) fn write_leaf_digests<H: ArrayHash>(
     digests: &mut [[u8; 32]],
@@ -104,18 +136,7 @@ pub(crate) fn write_leaf_digests<H: ArrayHash>(
     ensures { IfSome (parts_by bytes.now lengths.now) (λ xs.
         digests.new ≡ map H.leaf_hash xs) }
 {
-    let mut rest = bytes;
-    let mut place = 0;
-    'runs: while place < lengths.len() {
-        let count = (lengths.len() - place).min(RUN);
-        let Some(next) = next_run(rest, lengths, place, count) else {
-            return;
-        };
-        let run = next.0;
-        write_run::<H>(digests, place, &run[..count], count);
-        rest = next.1;
-        place += count;
-    }
+    let _none = write_digests_from::<H>(digests, bytes, lengths, 0);
 }
 
 /// Returns the digest of each leaf, where the lengths are those of parts that are all of the bytes.

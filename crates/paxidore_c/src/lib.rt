@@ -20,6 +20,7 @@ pub mod poseidon;
 pub mod poseidon_log;
 pub mod poseidon_log_kept;
 mod refused;
+mod roots;
 pub mod sha256;
 pub mod signatures;
 pub mod transcript;

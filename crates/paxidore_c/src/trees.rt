@@ -13,6 +13,7 @@ use crate::buffer::hand_over;
 use crate::hashing::in_hashing;
 use crate::leaves::{are_indexes, digests_of_leaves, leaves_for};
 use crate::refused::{Refused, verdict_code};
+use crate::roots::root_over_leaves;
 use ark_base::serialize::canonical_bytes;
 use ark_crh::ArrayHash;
 use ark_merkle::{MerkleTree, MultiPath, Path, is_tree_size};
@@ -110,9 +111,9 @@ fn write_root<H: ArrayHash>(
         (λ xs. root_in (tree_over (hashing_by H.leaf_hash H.node_hash) xs) ≡ Ok root.new) }
     ensures kept { result ≢ pos 0 → root.new ≡ root.old }
 {
-    match tree_of::<H>(alloc, leaves, lengths) {
-        Ok(tree) => {
-            *root = *tree.root();
+    match root_over_leaves::<H>(alloc, leaves, lengths) {
+        Ok(digest) => {
+            *root = digest;
             0
         }
         Err(refused) => refused.code(),

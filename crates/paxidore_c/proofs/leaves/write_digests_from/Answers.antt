@@ -1,0 +1,23 @@
+use Rattle.std.proofs.Common.{◌+◌, ◌≡◌, ◌≤◌, length, take, drop, ◌∙◌, arith}
+use Rattle.std.proofs.lemmas.List.{length-map, length-take-le}
+use Rattle.ark_crh.specs.Ahead.{lent}
+use Rattle.paxidore_c.specs.Cut.{parts_by}
+use Rattle.paxidore_c.proofs.Drawing.{drawn-more, drawn-none}
+use Rattle.paxidore_c.proofs.leaves.write_digests_from.Goals as goal
+
+pub runs-init : goal.runs-init
+runs-init g c = record {
+  inside = omega arith;
+  drawn = drawn-none g.H.ArrayHash.leaf_hash c.args.lengths.now c.args.first c.args.bytes.now;
+}
+
+pub runs-preserved : goal.runs-preserved
+runs-preserved g c = record {
+  inside = omega (arith, c.write_run.auto.digests, c.min-count.ensures, c.runs.invariant.inside);
+  drawn = rw c.write_run.ensures (drawn-more g.H.ArrayHash.leaf_hash c.args.lengths.now c.args.first
+      (parts_by c.args.bytes.now (drop c.args.first c.args.lengths.now)) c.runs.place c.min-count.result
+      (take c.runs.place c.runs.digests) c.runs.rest.now c.in-Some.next.1.now
+      (lent (take c.min-count.result c.in-Some.next.0)) c.runs.invariant.drawn
+      (length-map (take c.min-count.result c.in-Some.next.0) (λ leaf. leaf.now)
+      ∙ length-take-le c.min-count.result c.in-Some.next.0 (omega (arith, c.in-Some.ensures.long, c.min-count.ensures))) c.in-Some.ensures.cut);
+}
