@@ -164,12 +164,6 @@ class Calls(unittest.TestCase):
                     shown[DRAWS.randrange(len(shown))] += b"x"
                     self.assertFalse(trees.multi_verify(tree.root, size, indexes, shown, proof))
 
-    def test_roots_of_many_leaves(self):
-        for trees, leaf, node in HASHINGS:
-            for size in (1 << 10, 1 << 11, 1 << 12, 1 << 14):
-                leaves = drawn_leaves(size)
-                self.assertEqual(trees.root(leaves), Tree(leaf, node, leaves).root)
-
     def test_no_flipped_bit_is_accepted(self):
         for trees, leaf, node in HASHINGS:
             leaves = drawn_leaves(1024)

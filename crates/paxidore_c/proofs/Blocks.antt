@@ -1,21 +1,24 @@
 -- The root of a tree is that of the tree above the roots of its blocks.
 use Rattle.std.proofs.Common.{◌≡◌, ◌≢◌, ◌⊎◌, inl, inr, ℕ, zero, suc, ◌+◌, ◌-◌, ◌*◌, ◌/◌, ◌<◌, ◌≤◌, ◌^◌, List, [], length, take, drop, map, get_or, set, Option, None, Some, IfSome, Ok, eqb, leb, true, false, refl, sym, ap, ◌∙◌, arith}
 use Rattle.std.proofs.Math.Nat.{pow-le-pow_right, pow-succ'}
-use Rattle.std.proofs.lemmas.List.{drop-drop, drop-map, get_or-set_other, get_or-set_same, length-drop, length-map, length-take-le, take-map}
+use Rattle.std.proofs.lemmas.List.{drop-drop, drop-map, get_or-set_other, get_or-set_same, length-drop, length-map, length-take-le, take-map, take_all}
 use Rattle.std.proofs.lemmas.Bool.Decides.{eqb_tells, leb_tells}
 use Rattle.std.proofs.lemmas.Nat.{pow-add}
 use Rattle.std.proofs.lemmas.Option.{IfSome_then}
 use Rattle.ark_base.specs.Laws.Steps.{done_injective}
 use Rattle.ark_paths.proofs.Logs.{upper_levels-is}
 use Rattle.ark_paths.proofs.Parts.{get_or-part, part-left, part-right, part-whole}
-use Rattle.ark_paths.specs.Index.{IsTreeSize}
+use Rattle.ark_paths.specs.Index.{IsTreeSize, is_tree_size}
 use Rattle.ark_paths.specs.Pair.{Digest}
 use Rattle.ark_paths.specs.Root.{Place, Root, outcome_of, place, place_of_halves, root}
 use Rattle.ark_paths.specs.Rows.{part}
+use Rattle.ark_paths.specs.Tree.{root_in}
 use Rattle.kept_tree.specs.KeptTree.{PlainNode, alike}
 use Rattle.paxidore_c.specs.Blocks.{AreBlockRoots, block_of}
 use Rattle.paxidore_c.specs.Cut.{parts_by}
-use Rattle.paxidore_c.specs.Hashing.{hashing_by}
+use Rattle.paxidore_c.specs.Answer.{tree_leaves_in}
+use Rattle.paxidore_c.specs.Hashing.{hashing_by, tree_over}
+use Rattle.std.specs.Option.{is_some}
 use Rattle.paxidore_c.proofs.Parts.{parts-count}
 use Rattle.paxidore_c.proofs.TreeLemmas.{place-node}
 
@@ -209,3 +212,33 @@ root-cut node made leaves lengths roots d size many count are top = by_cut (part
         let long : length (map made xs) ≡ 1024 * length roots =
         length-map xs made ∙ parts-count leaves lengths xs is ∙ blocks.1.1 ∙ ap (λ (n : ℕ). 1024 * n) (sym count) in
         root-by-blocks node (map made xs) roots blocks.0 (count ∙ blocks.1.0) long are ∙ top
+
+-- as many leaves as lengths are all of them
+pub root-all : (node : PlainNode) (made : List ℕ → Digest) (leaves lengths : List ℕ) (d : Digest)
+    → IfSome (parts_by leaves lengths) (λ xs. root (alike node) (map made (take (length lengths) xs)) ≡ Ok d)
+    → IfSome (parts_by leaves lengths) (λ xs. root (alike node) (map made xs) ≡ Ok d)
+root-all node made leaves lengths d rooted = by_cut (parts_by leaves lengths) refl rooted
+  where
+    by_cut : (cut : Option (List (List ℕ))) → parts_by leaves lengths ≡ cut
+        → IfSome cut (λ xs. root (alike node) (map made (take (length lengths) xs)) ≡ Ok d)
+        → IfSome cut (λ xs. root (alike node) (map made xs) ≡ Ok d)
+    by_cut None is rooted = tt
+    by_cut (Some xs) is rooted =
+        let all : take (length lengths) xs ≡ xs =
+        take_all (length lengths) xs (omega (arith, parts-count leaves lengths xs is)) in
+        ap (λ (ys : List (List ℕ)). root (alike node) (map made ys)) (sym all) ∙ rooted
+
+-- the root of a tree's leaves, as an outcome
+pub root-over : (leaf : List ℕ → Digest) (node : PlainNode) (leaves lengths : List ℕ) (d : Digest)
+    → is_tree_size (length lengths) ≡ true → is_some (parts_by leaves lengths) ≡ true
+    → IfSome (parts_by leaves lengths) (λ xs. root (alike node) (map leaf xs) ≡ Ok d)
+    → (xs : List (List ℕ)) × (tree_leaves_in leaves lengths ≡ Ok xs)
+    × (root_in (tree_over (hashing_by leaf node) xs) ≡ Ok d)
+root-over leaf node leaves lengths d sized some rooted = by_cut (parts_by leaves lengths) refl some rooted
+  where
+    by_cut : (cut : Option (List (List ℕ))) → parts_by leaves lengths ≡ cut → is_some cut ≡ true
+        → IfSome cut (λ xs. root (alike node) (map leaf xs) ≡ Ok d)
+        → (xs : List (List ℕ)) × (tree_leaves_in leaves lengths ≡ Ok xs)
+        × (root_in (tree_over (hashing_by leaf node) xs) ≡ Ok d)
+    by_cut None is never rooted = absurd cc
+    by_cut (Some xs) is some rooted = (xs, rw (sized, is) refl, rooted)

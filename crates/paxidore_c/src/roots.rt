@@ -1,7 +1,7 @@
 //! The root of the tree above leaves that are handed in. Of a large tree the digests of one block of leaves are kept at a time,
 //! and the roots of all blocks.
 
-ghost use Rattle.std.specs.Prelude.{◌≡◌, ◌⊎◌, ◌<◌, ◌≤◌, ◌+◌, ◌*◌, List, ℕ, length, take, drop, map, Err, Ok, Some, IfErr, IfOk, IfSome};
+ghost use Rattle.std.specs.Prelude.{◌≡◌, ◌⊎◌, ◌<◌, ◌≤◌, ◌+◌, ◌*◌, ◌/◌, List, ℕ, length, take, drop, map, Err, Ok, Some, IfErr, IfOk, IfSome};
 ghost use Rattle.ark_paths.specs.Index.{IsTreeSize};
 ghost use Rattle.ark_paths.specs.Root.{root};
 ghost use Rattle.ark_paths.specs.Tree.{root_in};
@@ -44,22 +44,24 @@ fn write_last<'a, H: ArrayHash>(
     write_digests_from::<H>(&mut memory[count - 1..], bytes, lengths, first)
 }
 
-// Returns the root of a block of leaves, whose tree it writes to memory, and the bytes behind these leaves.
-fn block_root<'a, H: ArrayHash>(
+// Returns the root of so many leaves from a place on, whose tree it writes to memory, and the bytes behind these leaves.
+fn root_from<'a, H: ArrayHash>(
     memory: &mut [[u8; 32]],
+    count: usize,
     bytes: &'a [u8],
     lengths: &[usize],
     first: usize,
 ) -> ([u8; 32], &'a [u8])
-    requires room { length memory.old ≡ 2047 }
-    requires inside { first + 1024 ≤ length lengths.now }
-    ensures long { length memory.new ≡ 2047 }
+    requires size { IsTreeSize count }
+    requires room { length memory.old + 1 ≡ 2 * count }
+    requires inside { first + count ≤ length lengths.now }
+    ensures long { length memory.new ≡ length memory.old }
     ensures root { IfSome (parts_by bytes.now (drop first lengths.now)) (λ xs.
-        root (alike H.node_hash) (map H.leaf_hash (take 1024 xs)) ≡ Ok result.0) }
+        root (alike H.node_hash) (map H.leaf_hash (take count xs)) ≡ Ok result.0) }
     ensures rest { IfSome (parts_by bytes.now (drop first lengths.now)) (λ xs.
-        parts_by result.1.now (drop (first + 1024) lengths.now) ≡ Some (drop 1024 xs)) }
+        parts_by result.1.now (drop (first + count) lengths.now) ≡ Some (drop count xs)) }
 {
-    let rest = write_last::<H>(memory, BLOCK, bytes, lengths, first);
+    let rest = write_last::<H>(memory, count, bytes, lengths, first);
     rebuild::<H>(memory);
     (*kept_root(memory), rest)
 }
@@ -79,7 +81,7 @@ fn write_block_roots<H: ArrayHash>(
 {
     let mut rest = leaves;
     'each: for number in 0..roots.len() {
-        let (root, behind) = block_root::<H>(memory, rest, lengths, BLOCK * number);
+        let (root, behind) = root_from::<H>(memory, BLOCK, rest, lengths, BLOCK * number);
         roots[number] = root;
         rest = behind;
     }
@@ -104,42 +106,66 @@ fn write_top<H: ArrayHash>(
     write_block_roots::<H>(&mut top[count - 1..], memory, leaves, lengths);
 }
 
-// Returns the root of the tree above more leaves than a block has. The only error is `Memory`.
+// Returns the root of the tree above more leaves than a block has, by memory for the tree of a block and that of the roots of blocks.
 fn root_by_blocks<H: ArrayHash>(
+    top: &mut [[u8; 32]],
+    memory: &mut [[u8; 32]],
+    leaves: &[u8],
+    lengths: &[usize],
+) -> [u8; 32]
+    requires size { IsTreeSize (length lengths.now) }
+    requires many { 1024 < length lengths.now }
+    requires top { length top.old + 1 ≡ 2 * (length lengths.now / 1024) }
+    requires room { length memory.old ≡ 2047 }
+    ensures { IfSome (parts_by leaves.now lengths.now) (λ xs.
+        root (alike H.node_hash) (map H.leaf_hash xs) ≡ Ok result) }
+{
+    write_top::<H>(top, lengths.len() / BLOCK, memory, leaves, lengths);
+    rebuild::<H>(top);
+    *kept_root(top)
+}
+
+// Returns the root of the tree above more leaves than a block has. The only error is `Memory`.
+fn root_of_many<H: ArrayHash>(
     alloc: Global,
     leaves: &[u8],
     lengths: &[usize],
 ) -> Result<[u8; 32], Refused>
     requires size { IsTreeSize (length lengths.now) }
     requires many { 1024 < length lengths.now }
-    ensures root { IfSome (parts_by leaves.now lengths.now) (λ xs. IfOk result (λ digest.
+    ensures root { IfOk result (λ digest. IfSome (parts_by leaves.now lengths.now) (λ xs.
         root (alike H.node_hash) (map H.leaf_hash xs) ≡ Ok digest)) }
     ensures memory { IfErr result (λ refused. refused ≡ Memory) }
 {
-    let count = lengths.len() / BLOCK;
     let mut memory = vec![in alloc; [0u8; 32]; 2 * BLOCK - 1]?;
-    let mut top = vec![in alloc; [0u8; 32]; 2 * count - 1]?;
-    write_top::<H>(&mut top, count, &mut memory, leaves, lengths);
-    rebuild::<H>(&mut top);
-    Ok(*kept_root(&top))
+    let mut top = vec![in alloc; [0u8; 32]; 2 * (lengths.len() / BLOCK) - 1]?;
+    Ok(root_by_blocks::<H>(&mut top, &mut memory, leaves, lengths))
 }
 
-// Returns the root of the tree above leaves of which all are kept. The only error is `Memory`.
+// Returns the root of the tree above leaves, by memory for all of it.
+fn root_of_all<H: ArrayHash>(memory: &mut [[u8; 32]], leaves: &[u8], lengths: &[usize]) -> [u8; 32]
+    requires size { IsTreeSize (length lengths.now) }
+    requires room { length memory.old + 1 ≡ 2 * length lengths.now }
+    ensures { IfSome (parts_by leaves.now lengths.now) (λ xs.
+        root (alike H.node_hash) (map H.leaf_hash xs) ≡ Ok result) }
+{
+    root_from::<H>(memory, lengths.len(), leaves, lengths, 0).0
+}
+
+// Returns the root of the tree above as many leaves as a block has at most. The only error is `Memory`.
 fn root_of_few<H: ArrayHash>(
     alloc: Global,
     leaves: &[u8],
     lengths: &[usize],
 ) -> Result<[u8; 32], Refused>
     requires size { IsTreeSize (length lengths.now) }
-    ensures root { IfSome (parts_by leaves.now lengths.now) (λ xs. IfOk result (λ digest.
+    requires few { length lengths.now ≤ 1024 }
+    ensures root { IfOk result (λ digest. IfSome (parts_by leaves.now lengths.now) (λ xs.
         root (alike H.node_hash) (map H.leaf_hash xs) ≡ Ok digest)) }
     ensures memory { IfErr result (λ refused. refused ≡ Memory) }
 {
-    let count = lengths.len();
-    let mut memory = vec![in alloc; [0u8; 32]; 2 * count - 1]?;
-    let _none = write_last::<H>(&mut memory, count, leaves, lengths, 0);
-    rebuild::<H>(&mut memory);
-    Ok(*kept_root(&memory))
+    let mut memory = vec![in alloc; [0u8; 32]; 2 * lengths.len() - 1]?;
+    Ok(root_of_all::<H>(&mut memory, leaves, lengths))
 }
 
 /// Returns the root of the tree above the leaves. Beside them it allocates 64 KiB, and 64 bytes for each 1,024 leaves.
@@ -164,7 +190,7 @@ pub fn root_over_leaves<H: ArrayHash>(
         return Err(Refused::Lengths);
     }
     if lengths.len() > BLOCK {
-        root_by_blocks::<H>(alloc, leaves, lengths)
+        root_of_many::<H>(alloc, leaves, lengths)
     } else {
         root_of_few::<H>(alloc, leaves, lengths)
     }
