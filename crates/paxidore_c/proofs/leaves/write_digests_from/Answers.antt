@@ -1,4 +1,4 @@
-use Rattle.std.proofs.Common.{◌+◌, ◌≡◌, ◌≤◌, length, take, drop, ◌∙◌, arith}
+use Rattle.std.proofs.Common.{take, drop, ◌∙◌, arith}
 use Rattle.std.proofs.lemmas.List.{length-map, length-take-le}
 use Rattle.ark_crh.specs.Ahead.{lent}
 use Rattle.paxidore_c.specs.Cut.{parts_by}

@@ -1,4 +1,4 @@
-use Rattle.std.proofs.Common.{◌-◌, ◌≡◌, ◌≤◌, length, take, drop}
+use Rattle.std.proofs.Common.{◌-◌, ◌≤◌, length, take, drop}
 use Rattle.paxidore_c.specs.Cut.{parts_by}
 use Rattle.paxidore_c.proofs.Drawing.{IsDrawn}
 use Rattle.paxidore_c.proofs.leaves.write_digests_from.Given as goal

@@ -1,4 +1,4 @@
-use Rattle.std.proofs.Common.{◌≡◌, ◌*◌, ◌/◌, length, true, sym, ◌∙◌, arith}
+use Rattle.std.proofs.Common.{◌≡◌, ◌/◌, length, true, sym, arith}
 use Rattle.std.proofs.lemmas.List.{length-drop}
 use Rattle.kept_tree.specs.KeptTree.{is_tree_length, kept_leaves}
 use Rattle.kept_tree.proofs.Lengths.{sized-length}
@@ -14,8 +14,12 @@ returns g c =
     let top = c.write_top.new.top in
     let count = length c.args.lengths.now / 1024 in
     let blocks = blocks-count (length c.args.lengths.now) c.requires.size c.requires.many in
-    let long : length (kept_leaves top) ≡ count = omega (arith, c.write_top.ensures.long, c.requires.top,
-    length-drop (length top / 2) top) in
+    let long : length (kept_leaves top) ≡ count = omega (
+      arith,
+      c.write_top.ensures.long,
+      c.requires.top,
+      length-drop (length top / 2) top,
+    ) in
     let sized : is_tree_length (length top) ≡ true = sized-length (length top) count (blocks.0, blocks.1.0)
     (omega (arith, c.write_top.ensures.long, c.requires.top)) in
     root-cut node g.H.ArrayHash.leaf_hash c.args.leaves.now c.args.lengths.now (kept_leaves top) c.kept_root.result.now

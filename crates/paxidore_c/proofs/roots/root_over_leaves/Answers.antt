@@ -1,4 +1,4 @@
-use Rattle.std.proofs.Common.{◌≡◌, IfOk, sym, ◌∙◌}
+use Rattle.std.proofs.Common.{sym, ◌∙◌}
 use Rattle.std.proofs.lemmas.Result.{IfOk-weaker}
 use Rattle.paxidore_c.proofs.Blocks.{root-over}
 use Rattle.paxidore_c.proofs.roots.root_over_leaves.Goals as goal
