@@ -12,12 +12,14 @@ runs-init g c = record {
 }
 
 pub runs-preserved : goal.runs-preserved
-runs-preserved g c = record {
-  inside = omega (arith, c.write_run.auto.digests, c.min-count.ensures, c.runs.invariant.inside);
-  drawn = rw c.write_run.ensures (drawn-more g.H.ArrayHash.leaf_hash c.args.lengths.now c.args.first
-      (parts_by c.args.bytes.now (drop c.args.first c.args.lengths.now)) c.runs.place c.min-count.result
-      (take c.runs.place c.runs.digests) c.runs.rest.now c.in-Some.next.1.now
-      (lent (take c.min-count.result c.in-Some.next.0)) c.runs.invariant.drawn
-      (length-map (take c.min-count.result c.in-Some.next.0) (λ leaf. leaf.now)
-      ∙ length-take-le c.min-count.result c.in-Some.next.0 (omega (arith, c.in-Some.ensures.long, c.min-count.ensures))) c.in-Some.ensures.cut);
-}
+runs-preserved g c =
+    let run = take c.min-count.result c.in-Some.next.0 in
+    let long = length-map run (λ leaf. leaf.now) ∙ length-take-le c.min-count.result c.in-Some.next.0
+    (omega (arith, c.in-Some.ensures.long, c.min-count.ensures)) in
+    record {
+      inside = omega (arith, c.write_run.auto.digests, c.min-count.ensures, c.runs.invariant.inside);
+      drawn = rw c.write_run.ensures (drawn-more g.H.ArrayHash.leaf_hash c.args.lengths.now c.args.first
+          (parts_by c.args.bytes.now (drop c.args.first c.args.lengths.now)) c.runs.place c.min-count.result
+          (take c.runs.place c.runs.digests) c.runs.rest.now c.in-Some.next.1.now (lent run) c.runs.invariant.drawn long
+          c.in-Some.ensures.cut);
+    }
