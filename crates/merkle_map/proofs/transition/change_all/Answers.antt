@@ -8,14 +8,14 @@ pub returns-in_err-change_tree-clause-changed : goal.returns-in_err-change_tree-
 returns-in_err-change_tree-clause-changed g c =
     passed_on _ _ c.from_residual.result c.in_err-change_tree.field-0.0 c.from_residual.ensures.1
     c.in_err-change_tree.ensures.changed
-    (λ why. made-error (g.T.MapHasher.hashes c.args.hasher.now)
-    (change_seen g.D.Numbered.numbers) c.args.changes.now c.args.tree.now c.changes.change-index
+    (λ why. made-error (g.H.MapViews.hashes c.args.hasher.now)
+    change_seen c.args.changes.now c.args.tree.now c.changes.change-index
     c.change-item.result c.changes.tree
     (omega arith) c.change-item.is c.changes.invariant c.in_err-change_tree.field-0.0 why)
 
 pub changes-preserved : goal.changes-preserved
 changes-preserved g c =
-    made-next (g.T.MapHasher.hashes c.args.hasher.now)
-    (change_seen g.D.Numbered.numbers) c.args.changes.now c.args.tree.now c.changes.change-index
+    made-next (g.H.MapViews.hashes c.args.hasher.now)
+    change_seen c.args.changes.now c.args.tree.now c.changes.change-index
     c.change-item.result c.changes.tree (omega arith) c.change-item.is c.changes.invariant c.change_tree.new.tree
     c.in_ok-change_tree.ensures.changed c.in_ok-change_tree.ensures.maps

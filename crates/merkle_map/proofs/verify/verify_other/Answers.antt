@@ -6,7 +6,7 @@ use Rattle.merkle_map.proofs.verify.verify_other.Goals as goal
 
 pub returns-else-are_same_keys-clause-bound : goal.returns-else-are_same_keys-clause-bound
 returns-else-are_same_keys-clause-bound g c =
-    let h = g.T.MapHasher.hashes c.args.hasher.now in
+    let h = g.H.MapViews.hashes c.args.hasher.now in
     let key = c.args.key.now in
     let other = c.args.other_key.now in
     let root = g.D.Numbered.numbers c.args.root.now in

@@ -6,7 +6,7 @@ use Rattle.merkle_map.proofs.verify.verify_value.Goals as goal
 
 pub returns-clause-bound : goal.returns-clause-bound
 returns-clause-bound g c =
-    let h = g.T.MapHasher.hashes c.args.hasher.now in
+    let h = g.H.MapViews.hashes c.args.hasher.now in
     let key = c.args.key.now in
     let root = g.D.Numbered.numbers c.args.root.now in
     let value = g.D.Numbered.numbers c.args.value.now in
