@@ -13,5 +13,5 @@ returns-clause-back g c =
     let own = giving (changed_key change) (value_at (changed_key change) old) in
     subst (Undoes old new)
     (ap (λ (key : Key). giving key (value_at key old)) (sym c.key_of.ensures)
-    ∙ sym c.change_back.ensures)
+    ∙ sym c.change_back-back.ensures)
     (takes-back change old new c.in_ok-make.ensures.changed)

@@ -20,7 +20,8 @@ returns-in-Ok-clause-found g c =
 pub returns-in-Err-clause-found : goal.returns-in-Err-clause-found
 returns-in-Err-clause-found g c =
     let own = shape g.H.Output.Numbered.numbers c.self.inside.top in
-    let is = store-found (g.H.MapViews.hashes c.self.inside.hasher) own c.args.key.now c.self.invariant.stands c.self.invariant.whole _ c.in-Err.ensures in
+    let is = store-found (g.H.MapViews.hashes c.self.inside.hasher) own c.args.key.now
+    c.self.invariant.stands c.self.invariant.whole _ c.in-Err.ensures in
     absurd cc
 
 pub returns-in-Ok-clause-once : goal.returns-in-Ok-clause-once
