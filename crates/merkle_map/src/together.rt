@@ -1,6 +1,6 @@
 //! Roots of trees that keep digests. Where much has changed, forks whose sides have digests are hashed together.
 
-ghost use Rattle.std.specs.Prelude.{◌≡◌, ◌<◌, length, map, All, IfOk};
+ghost use Rattle.std.specs.Prelude.{◌≡◌, ◌<◌, length, map, true, All, IfOk};
 ghost use Rattle.ark_base.specs.Outcome.{AnswersBy};
 ghost use Rattle.ark_crh.specs.Ahead.{lent_couples, of_couple, AreOfFirst};
 ghost use Rattle.merkle_map.specs.Kept.{IsFor, IsKept};
@@ -341,6 +341,14 @@ fn hash_work<D: DigestItem, H: MapViews<Input = [u8; 32], Output = D>>(
     })
 }
 
+// Returns whether a key with its value is the entry.
+fn is_entry(own: &([u8; 32], [u8; 32]), entry: &Entry) -> bool
+    ensures key { result ≡ true → own.now.0 ≡ entry.now.key }
+    ensures value { result ≡ true → own.now.1 ≡ entry.now.value }
+{
+    are_same_keys(&own.0, &entry.key) && are_same_keys(&own.1, &entry.value)
+}
+
 // Returns an entry's digest, if it is the entry that was hashed at a place. The only error is `OutOfMemory`.
 fn entry_digest<D: DigestItem, H: MapViews<Input = [u8; 32], Output = D>>(
     alloc: Global,
@@ -356,8 +364,7 @@ fn entry_digest<D: DigestItem, H: MapViews<Input = [u8; 32], Output = D>>(
     if place >= entries.len() || place >= digests.len() {
         return Ok(None);
     }
-    let own = entries[place];
-    if are_same_keys(&own.0, &entry.key) && are_same_keys(&own.1, &entry.value) {
+    if is_entry(&entries[place], entry) {
         let digest = copy_digest(alloc, &digests[place])?;
         return Ok(Some(digest));
     }
