@@ -1,15 +1,17 @@
-use Rattle.std.proofs.Common.{arith, sym, ◌∙◌}
-use Rattle.merkle_map.proofs.Ahead.{entry-at, same-entry}
+use Rattle.std.proofs.Common.{◌≡◌, [], get_or, arith, refl, sym, ◌∙◌}
+use Rattle.std.proofs.lemmas.List.{get_or_default}
+use Rattle.merkle_map.proofs.Ahead.{entry-at}
 use Rattle.merkle_map.proofs.together.entry_digest.Goals as goal
 
-pub returns-then-are_same_keys-2 : goal.returns-then-are_same_keys-2
-returns-then-are_same_keys-2 g c =
+pub returns-then-is_entry : goal.returns-then-is_entry
+returns-then-is_entry g c =
     let numbers = g.D.Numbered.numbers in
     let h = g.H.MapViews.hashes c.args._hasher.now in
-    same-entry h c.index-entries-place.result c.args.entry.now.key c.args.entry.now.value _
-    (sym c.are_same_keys.ensures ∙ c.if-are_same_keys.true)
-    (sym c.are_same_keys-then-are_same_keys.ensures ∙ c.if-are_same_keys-2.true)
-    (entry-at numbers h c.args.entries.now c.args.digests.now c.args.place c.index-entries-place.result
-    c.index-digests-place.result c.requires (omega arith) (omega arith) c.index-entries-place.is
-    c.index-digests-place.is)
+    let own = get_or c.args.entries.now c.args.place ([], []) in
+    let key : c.args.entry.now.key ≡ own.0 = sym (c.if-is_entry.ensures.key refl) in
+    let value : c.args.entry.now.value ≡ own.1 = sym (c.if-is_entry.ensures.value refl) in
+    (λ i. h.leaf (key i) (value i))
+    ∙ entry-at numbers h c.args.entries.now c.args.digests.now c.args.place own c.index-digests-place.result c.requires
+    (omega arith) (omega arith) (get_or_default c.args.entries.now c.args.place ([], []) own (omega arith))
+    c.index-digests-place.is
     ∙ c.in_ok-digest.ensures
