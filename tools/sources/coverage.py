@@ -13,7 +13,6 @@ OWN = ("vectors", "examples", "test_support", "acp", "paxlog", "secret_calls")
 EXCEPTED = {
     "acp_run::words": "it returns what the operating system handed to the program",
     "ark_trees::Arrays::new": "the value has no parts: there is one of the type",
-    "merkle_map::Sha256Map::new": "the value has no parts: there is one of the type",
     "paxlog_run::Progress::show": "it only shows how far a call is; nothing that a contract sees changes",
 }
 LIMITS = "docs/LIMITS.md"

@@ -204,11 +204,11 @@ pub mod log {
     pub use signed_notes;
 }
 
-/// Maps from keys of 32 bytes to digests, with proofs of what they have at a key and of what they have not.
+/// Maps from keys of 32 bytes to values of 32 bytes, with proofs of what they have at a key and of what they have not.
 pub mod map {
     pub use merkle_map::{
-        Change, End, Entry, HIDDEN, HashedEntry, HashedPair, KeptMap, KeyProof, MapHasher, MapTree,
-        Sha256Map, change_from, verify_absent, verify_other, verify_transition, verify_value,
+        Change, End, Entry, HIDDEN, KeptMap, KeyProof, MapHasher, MapTree, MapViews, Sha256Map,
+        change_from, verify_absent, verify_other, verify_transition, verify_value,
     };
 }
 

@@ -16,7 +16,7 @@ use std::alloc::Global;
 /// A map, and the log of the roots that it had.
 #[derive(Drop)]
 pub struct Directory {
-    pub map: KeptMap<[u8; 32], Sha256Map>,
+    pub map: KeptMap<Sha256Map>,
     pub versions: Log<[u8; 32], LogHasher>,
 }
 

@@ -23,15 +23,15 @@ pub record ProofSeen : Type 0 where
   pub end : EndSeen
   pub siblings : List Digest
 
--- an end, its value by its numbers
-abbrev pub end_seen : {D : Type 0} → (D → Digest) → End D → EndSeen
-end_seen numbers NoEntry = AtNothing
-end_seen numbers OwnEntry = AtOwn
-end_seen numbers (OtherEntry entry) = AtOther (entry_seen numbers entry)
+-- what an end is
+abbrev pub end_seen : End → EndSeen
+end_seen NoEntry = AtNothing
+end_seen OwnEntry = AtOwn
+end_seen (OtherEntry entry) = AtOther (entry_seen entry)
 
 -- a proof, its digests by their numbers
 abbrev pub proof_seen : {D : Type 0} → (D → Digest) → KeyProof D → ProofSeen
-proof_seen numbers proof = record { end = end_seen numbers proof.end; siblings = map numbers proof.siblings.items }
+proof_seen numbers proof = record { end = end_seen proof.end; siblings = map numbers proof.siblings.items }
 
 -- ---- how a proof is judged
 
@@ -92,5 +92,5 @@ abbrev pub behind_all : List Digest → Outcome ProofSeen → Outcome ProofSeen
 behind_all digests outcome = outcome >>= λ proof. Ok (with_digests_above digests proof)
 
 -- the proof of an end and these digests
-abbrev pub seen_with : {D : Type 0} → (D → Digest) → List Digest → End D → ProofSeen
-seen_with numbers siblings end = record { end = end_seen numbers end; siblings = siblings }
+abbrev pub seen_with : List Digest → End → ProofSeen
+seen_with siblings end = record { end = end_seen end; siblings = siblings }

@@ -56,6 +56,20 @@ pub record MapHashes : Type 0 where
   pub leaf : Key → Digest → Outcome Digest
   pub pair : Digest → Digest → Outcome Digest
 
+-- a hash of two at its parameters, with the digest of nothing
+pub record HasherValue (P : Type 0) : Type 0 where
+  pub parameters : P
+  pub nothing : Digest
+
+-- The hashes of a tree by a hash of two: an entry is that of two inputs, a fork that of two digests.
+abbrev pub map_hashes : {P : Type 0} → (P → List ℕ → List ℕ → Outcome Digest)
+    → (P → List ℕ → List ℕ → Outcome Digest) → HasherValue P → MapHashes
+map_hashes evaluated compressed hasher = record {
+  nothing = hasher.nothing;
+  leaf = evaluated hasher.parameters;
+  pair = compressed hasher.parameters;
+}
+
 -- the hash of a node
 abbrev pub digest_of : MapHashes → Node → Outcome Digest
 digest_of h Nothing = Ok h.nothing

@@ -9,14 +9,14 @@ use Rattle.merkle_map.specs.declared.part.Part.{Part, Empty as NoEntry, One as O
 use Rattle.merkle_map.specs.declared.top.Top.{Top}
 use Rattle.merkle_map.specs.declared.top.Top.TheVariants.{Shown, Digest as Alone}
 
--- an entry, its value by its numbers
-abbrev pub entry_seen : {D : Type 0} → (D → Digest) → KeyAndValue D → Entry
-entry_seen numbers entry = entry_of entry.key (numbers entry.value)
+-- a key with its value
+abbrev pub entry_seen : KeyAndValue → Entry
+entry_seen entry = entry_of entry.key entry.value
 
 -- a tree, its digests by their numbers
 abbrev pub shape : {D : Type 0} → (D → Digest) → Part D → Shape
 shape numbers NoEntry = Empty
-shape numbers (OneEntry entry) = One (entry_seen numbers entry.value)
+shape numbers (OneEntry entry) = One (entry_seen entry.value)
 shape numbers (TwoSides p left right digest) = Fork (shape numbers left) (shape numbers right)
 shape numbers (Behind digest) = Hidden (numbers digest.value)
 

@@ -8,15 +8,15 @@ use Rattle.merkle_map.specs.Shown.{has_digest}
 use Rattle.merkle_map.specs.declared.transition.Change.{Change}
 use Rattle.merkle_map.specs.declared.transition.Change.TheVariants.{Put, Remove}
 
--- a change, its value by its numbers
+-- a change: a value is put at a key, or a key is removed
 pub data ChangeSeen : Type 0 where
   Puts : (key : Key) (value : Digest) → ChangeSeen
   Removes : (key : Key) → ChangeSeen
 
 -- what a change is
-abbrev pub change_seen : {D : Type 0} → (D → Digest) → Change D → ChangeSeen
-change_seen numbers (Put key value) = Puts key (numbers value)
-change_seen numbers (Remove key) = Removes key
+abbrev pub change_seen : Change → ChangeSeen
+change_seen (Put key value) = Puts key value
+change_seen (Remove key) = Removes key
 
 -- a map after a change
 abbrev pub changed_by : ChangeSeen → List Entry → List Entry

@@ -10,8 +10,7 @@ ghost use Rattle.merkle_map.specs.Parts.{shape, value_seen};
 ghost use Rattle.merkle_map.specs.Transition.{change_seen, changed_by};
 ghost use Rattle.merkle_map.specs.Tree.{Shape, shape_digest};
 
-use crate::hasher::MapHasher;
-use crate::key::copy_digest;
+use crate::hasher::{MapHasher, MapViews};
 use crate::part::{Entry, Part, find_entry};
 use crate::proof::{KeyProof, climb_down};
 use crate::put::put_in;
@@ -19,13 +18,12 @@ use crate::remove::remove_shown;
 use crate::together::{FEW, fill, fill_together};
 use crate::transition::Change;
 use ark_base::error::Error;
-use ark_base::serialize::DigestItem;
 use std::alloc::Global;
 use std::marker::Model;
 
 // The key of a change.
-fn key_of<D: DigestItem>(change: &Change<D>) -> &[u8; 32]
-    ensures { result.now ≡ changed_key (change_seen D.numbers change.now) }
+fn key_of(change: &Change) -> &[u8; 32]
+    ensures { result.now ≡ changed_key (change_seen change.now) }
 {
     match change {
         Change::Put { key, .. } => key,
@@ -43,31 +41,32 @@ fn one_more(changes: usize) -> usize {
 
 /// A map in memory, with its hasher. Contracts see the map and the hasher.
 #[derive(Drop)]
-pub struct KeptMap<D: DigestItem, T: MapHasher<D>> {
-    hasher: T,
-    top: Part<D>,
+pub struct KeptMap<H: MapViews> {
+    hasher: MapHasher<H>,
+    top: Part<H::Output>,
     // how often a part changed since the last root, up to `FEW`
     changes: usize,
 }
 
-impl<D: DigestItem, T: MapHasher<D>> Model for KeptMap<D, T> {
+impl<H: MapViews> Model for KeptMap<H> {
     ghost use Rattle.merkle_map.specs.Kept.{IsKeptStore, MapValue};
+    ghost use Rattle.merkle_map.specs.Map.{HasherValue};
     ghost use Rattle.merkle_map.specs.Parts.{shape};
     ghost use Rattle.merkle_map.specs.Whole.{entries_of};
 
-    ghost Value = { MapValue T };
+    ghost Value = { MapValue (HasherValue H.Parameters) };
 
     ghost view = { λ map. record {
       hasher = map.hasher;
-      entries = entries_of (shape D.numbers map.top);
+      entries = entries_of (shape H.Output.numbers map.top);
     } };
 
-    ghost invariant = { λ map. IsKeptStore D.numbers (T.hashes map.hasher) map.top };
+    ghost invariant = { λ map. IsKeptStore H.Output.numbers (H.hashes map.hasher) map.top };
 }
 
-impl<D: DigestItem, T: MapHasher<D>> KeptMap<D, T> {
+impl<H: MapViews<Input = [u8; 32]>> KeptMap<H> {
     /// Returns the empty map.
-    pub fn new(hasher: T) -> KeptMap<D, T>
+    pub fn new(hasher: MapHasher<H>) -> KeptMap<H>
         ensures { result ≡ record { hasher = hasher; entries = [] } }
     {
         KeptMap {
@@ -78,8 +77,8 @@ impl<D: DigestItem, T: MapHasher<D>> KeptMap<D, T> {
     }
 
     /// Returns what the map has at a key.
-    pub fn get(&self, key: &[u8; 32]) -> Option<&D>
-        ensures found { value_seen (λ value. D.numbers value.now) result
+    pub fn get(&self, key: &[u8; 32]) -> Option<&[u8; 32]>
+        ensures found { value_seen (λ value. value.now) result
             ≡ value_at key.now self.now.entries }
 
         // The map has no key twice.
@@ -92,9 +91,9 @@ impl<D: DigestItem, T: MapHasher<D>> KeptMap<D, T> {
     }
 
     /// Puts a value at a key. The only error is `OutOfMemory`, and it leaves the map unchanged.
-    pub fn insert(&mut self, alloc: Global, key: &[u8; 32], value: D) -> Result<(), Error>
+    pub fn insert(&mut self, alloc: Global, key: &[u8; 32], value: [u8; 32]) -> Result<(), Error>
         ensures put { OnOk result (HaveSame self.new.entries
-            (put key.now (D.numbers value) self.old.entries)) }
+            (put key.now value self.old.entries)) }
         ensures hasher { self.new.hasher ≡ self.old.hasher }
         ensures kept { OnErr result (self.new ≡ self.old) }
         ensures memory { IfErr result IsMemory }
@@ -112,33 +111,29 @@ impl<D: DigestItem, T: MapHasher<D>> KeptMap<D, T> {
         remove_shown(&mut self.top, key);
     }
 
-    // Returns the change that gives a key what it has. The only error is `OutOfMemory`.
-    fn change_back(&self, alloc: Global, key: &[u8; 32]) -> Result<Change<D>, Error>
-        ensures { AnswersBy (change_seen D.numbers)
-            (Ok (giving key.now (value_at key.now self.now.entries))) result }
+    // Returns the change that gives a key what it has.
+    fn change_back(&self, key: &[u8; 32]) -> Change
+        ensures { change_seen result ≡ giving key.now (value_at key.now self.now.entries) }
     {
         match self.get(key) {
-            Some(value) => {
-                let value = copy_digest(alloc, value)?;
-                Ok(Change::Put { key: *key, value })
-            }
-            None => Ok(Change::Remove { key: *key }),
+            Some(value) => Change::Put {
+                key: *key,
+                value: *value,
+            },
+            None => Change::Remove { key: *key },
         }
     }
 
     // Makes a change. The only error is `OutOfMemory`, and it leaves the map unchanged.
-    fn make(&mut self, alloc: Global, change: &Change<D>) -> Result<(), Error>
+    fn make(&mut self, alloc: Global, change: &Change) -> Result<(), Error>
         ensures changed { OnOk result (HaveSame self.new.entries
-            (changed_by (change_seen D.numbers change.now) self.old.entries)) }
+            (changed_by (change_seen change.now) self.old.entries)) }
         ensures hasher { self.new.hasher ≡ self.old.hasher }
         ensures kept { OnErr result (self.new ≡ self.old) }
         ensures memory { IfErr result IsMemory }
     {
         match change {
-            Change::Put { key, value } => {
-                let value = copy_digest(alloc, value)?;
-                self.insert(alloc, key, value)
-            }
+            Change::Put { key, value } => self.insert(alloc, key, *value),
             Change::Remove { key } => {
                 self.remove(key);
                 Ok(())
@@ -150,18 +145,18 @@ impl<D: DigestItem, T: MapHasher<D>> KeptMap<D, T> {
     /// on, the map has what it had, and so its root.
     ///
     /// The only error is `OutOfMemory`, and it leaves the map unchanged.
-    pub fn apply(&mut self, alloc: Global, change: &Change<D>) -> Result<Change<D>, Error>
+    pub fn apply(&mut self, alloc: Global, change: &Change) -> Result<Change, Error>
         ensures changed { OnOk result (HaveSame self.new.entries
-            (changed_by (change_seen D.numbers change.now) self.old.entries)) }
+            (changed_by (change_seen change.now) self.old.entries)) }
 
         // With what is returned the map has what it had before.
         ensures back { IfOk result (λ back. Undoes self.old.entries self.new.entries
-            (change_seen D.numbers back)) }
+            (change_seen back)) }
         ensures hasher { self.new.hasher ≡ self.old.hasher }
         ensures kept { OnErr result (self.new ≡ self.old) }
         ensures memory { IfErr result IsMemory }
     {
-        let back = self.change_back(alloc, key_of(change))?;
+        let back = self.change_back(key_of(change));
         self.make(alloc, change)?;
         Ok(back)
     }
@@ -169,8 +164,8 @@ impl<D: DigestItem, T: MapHasher<D>> KeptMap<D, T> {
     /// Returns the root. It hashes each node once that changed since the last call, and leaves beside them.
     ///
     /// Errors: those of the hashes, the lowest first, then the leftmost; `OutOfMemory`. What was hashed before is kept.
-    pub fn root(&mut self, alloc: Global) -> Result<D, Error>
-        ensures root { AnswersBy D.numbers (root_of_map (T.hashes self.old.hasher) self.old.entries)
+    pub fn root(&mut self, alloc: Global) -> Result<H::Output, Error>
+        ensures root { AnswersBy H.Output.numbers (root_of_map (H.hashes self.old.hasher) self.old.entries)
             result }
         ensures same { self.new ≡ self.old }
     {
@@ -185,15 +180,15 @@ impl<D: DigestItem, T: MapHasher<D>> KeptMap<D, T> {
     /// Returns the proof of what the map has at a key. Behind a call of `root` it hashes leaves beside the key's way alone.
     ///
     /// Errors: that of the highest side beside the key's way whose hash refuses; `OutOfMemory`.
-    pub fn prove_key(&self, alloc: Global, key: &[u8; 32]) -> Result<KeyProof<D>, Error>
+    pub fn prove_key(&self, alloc: Global, key: &[u8; 32]) -> Result<KeyProof<H::Output>, Error>
         // It is that of the map's tree.
         ensures answer { (tree : Shape) × IsTreeOf self.now.entries tree
-            × AnswersBy (proof_seen D.numbers)
-            (proof_at (T.hashes self.now.hasher) 0 key.now tree) result }
+            × AnswersBy (proof_seen H.Output.numbers)
+            (proof_at (H.hashes self.now.hasher) 0 key.now tree) result }
 
         // The root accepts it.
-        ensures accepted { IfOk result (λ proof. IsShownIn (T.hashes self.now.hasher) key.now
-            self.now.entries (proof_seen D.numbers proof)) }
+        ensures accepted { IfOk result (λ proof. IsShownIn (H.hashes self.now.hasher) key.now
+            self.now.entries (proof_seen H.Output.numbers proof)) }
     {
         let mut siblings = Vec::new(alloc);
         let end = climb_down(alloc, &self.hasher, &self.top, 0, key, &mut siblings)?;

@@ -23,7 +23,7 @@ pub mod transition;
 pub mod tree;
 pub mod verify;
 
-pub use hasher::{HashedEntry, HashedPair, MapHasher};
+pub use hasher::{MapHasher, MapViews};
 pub use kept::KeptMap;
 pub use part::{Entry, HIDDEN};
 pub use proof::{End, KeyProof};

@@ -8,7 +8,7 @@ ghost use Rattle.merkle_map.specs.Map.{MapHashes, bit_of as bit_in};
 ghost use Rattle.merkle_map.specs.Parts.{entry_seen, found_seen, shape};
 ghost use Rattle.merkle_map.specs.Tree.{shape_digest, way, StandsAt, Fork as ForkOf, Hidden as HiddenOf, One as OneOf};
 
-use crate::hasher::MapHasher;
+use crate::hasher::{MapHasher, MapViews};
 use crate::key::{are_same_keys, bit_of, copy_digest};
 use ark_base::error::{Error, Refusal};
 use ark_base::serialize::DigestItem;
@@ -16,9 +16,9 @@ use std::alloc::Global;
 
 /// A key with its value.
 #[derive(Drop)]
-pub struct Entry<D> {
+pub struct Entry {
     pub key: [u8; 32],
-    pub value: D,
+    pub value: [u8; 32],
 }
 
 /// A tree of keys with their values. One of no entry takes no memory of its own.
@@ -28,7 +28,7 @@ pub enum Part<D> {
     /// No entry.
     Empty,
     /// One entry.
-    One { entry: Box<Entry<D>> },
+    One { entry: Box<Entry> },
     /// The entries of two sides.
     Fork { sides: Box<Sides<D>> },
     /// Entries of which only the digest is known.
@@ -73,8 +73,8 @@ pub fn fork<D: DigestItem>(alloc: Global, left: Part<D>, right: Part<D>) -> Resu
 }
 
 // Makes the tree of one entry. The only error is `OutOfMemory`.
-pub fn one<D: DigestItem>(alloc: Global, entry: Entry<D>) -> Result<Part<D>, Error>
-    ensures made { AnswersBy (shape D.numbers) (Ok (OneOf (entry_seen D.numbers entry))) result }
+pub fn one<D: DigestItem>(alloc: Global, entry: Entry) -> Result<Part<D>, Error>
+    ensures made { AnswersBy (shape D.numbers) (Ok (OneOf (entry_seen entry))) result }
     ensures kept { IfOk result (λ new. (h : MapHashes) → IsKept D.numbers h new) }
 {
     let entry = Box::new(alloc, entry)?;
@@ -92,13 +92,13 @@ pub fn behind<D: DigestItem>(alloc: Global, digest: D) -> Result<Part<D>, Error>
 
 // Hashes a tree, as far as no digest is kept. Errors: those of the hashes, the lowest first, the left one among equals;
 // `OutOfMemory`.
-pub fn digest_of<D: DigestItem, T: MapHasher<D>>(
+pub fn digest_of<D: DigestItem, H: MapViews<Input = [u8; 32], Output = D>>(
     alloc: Global,
-    hasher: &T,
+    hasher: &MapHasher<H>,
     part: &Part<D>,
 ) -> Result<D, Error>
-    requires { IsKept D.numbers (T.hashes hasher.now) part.now }
-    ensures { AnswersBy D.numbers (shape_digest (T.hashes hasher.now) (shape D.numbers part.now))
+    requires { IsKept D.numbers (H.hashes hasher.now) part.now }
+    ensures { AnswersBy D.numbers (shape_digest (H.hashes hasher.now) (shape D.numbers part.now))
         result }
 {
     match part {
@@ -121,10 +121,10 @@ pub fn find_entry<'a, D: DigestItem>(
     part: &'a Part<D>,
     level: usize,
     key: &[u8; 32],
-) -> Result<Option<&'a D>, Error>
+) -> Result<Option<&'a [u8; 32]>, Error>
     requires { StandsAt (way level key.now) (shape D.numbers part.now) }
     ensures { known_at level key.now (shape D.numbers part.now)
-        ≡ found_seen (λ value. D.numbers value.now) result }
+        ≡ found_seen (λ value. value.now) result }
 {
     match part {
         Part::Empty => Ok(None),

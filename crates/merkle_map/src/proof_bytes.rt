@@ -86,11 +86,11 @@ fn push_given(nothing: &[u8; 32], siblings: &[[u8; 32]], dest: &mut Vec<u8>) -> 
 }
 
 // Writes the end of a way behind other bytes. The only error is `OutOfMemory`.
-pub fn push_end(end: &End<[u8; 32]>, dest: &mut Vec<u8>) -> Result<(), Error>
+pub fn push_end(end: &End, dest: &mut Vec<u8>) -> Result<(), Error>
     ensures written { OnOk result (dest.new.items
-        ≡ dest.old.items ++ end_bytes (end_seen itself end.now)) }
+        ≡ dest.old.items ++ end_bytes (end_seen end.now)) }
     ensures memory { IfErr result IsMemory }
-    ensures sized { OnOk result (IsEndOf32 (end_seen itself end.now)) }
+    ensures sized { OnOk result (IsEndOf32 (end_seen end.now)) }
 {
     match end {
         End::Nothing => {
@@ -140,10 +140,10 @@ pub fn push_siblings(
 // Reads the end of a way from the front of the bytes, and counts its bytes.
 //
 // Errors: the first fault from the left: `Truncated`; `InvalidData`: a byte that stands for no end.
-pub fn read_end(bytes: &[u8]) -> Result<(End<[u8; 32]>, usize), Error>
+pub fn read_end(bytes: &[u8]) -> Result<(End, usize), Error>
     ensures within { IfOk result (λ read. read.1 ≤ length bytes.now) }
-    ensures sized { IfOk result (λ read. IsEndOf32 (end_seen itself read.0)) }
-    ensures answer { AnswersBy (λ read. (end_seen itself read.0, drop read.1 bytes.now))
+    ensures sized { IfOk result (λ read. IsEndOf32 (end_seen read.0)) }
+    ensures answer { AnswersBy (λ read. (end_seen read.0, drop read.1 bytes.now))
         (end_in_front bytes.now) result }
 {
     if bytes.is_empty() {

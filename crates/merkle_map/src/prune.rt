@@ -8,7 +8,7 @@ ghost use Rattle.merkle_map.specs.Parts.{entry_seen, shape};
 ghost use Rattle.merkle_map.specs.Tree.{Hidden, One};
 ghost use Rattle.merkle_map.specs.Pruned.{aside, clears, covered, has_key, is_needed, keys_with, pruned, FitsKeys};
 
-use crate::hasher::MapHasher;
+use crate::hasher::{MapHasher, MapViews};
 use crate::key::{are_same_digests, copy_digest, has_bit};
 use crate::part::{Entry, Part, behind, digest_of, fork, one};
 use ark_base::error::Error;
@@ -92,17 +92,16 @@ fn needs_top<D: DigestItem>(
 }
 
 // Copies an entry. The only error is `OutOfMemory`.
-fn copy_of_entry<D: DigestItem>(alloc: Global, entry: &Entry<D>) -> Result<Part<D>, Error>
-    ensures copied { AnswersBy (shape D.numbers) (Ok (One (entry_seen D.numbers entry.now)))
+fn copy_of_entry<D: DigestItem>(alloc: Global, entry: &Entry) -> Result<Part<D>, Error>
+    ensures copied { AnswersBy (shape D.numbers) (Ok (One (entry_seen entry.now)))
         result }
     ensures digests { IfOk result (λ new. (h : MapHashes) → IsKept D.numbers h new) }
 {
-    let value = copy_digest(alloc, &entry.value)?;
     one(
         alloc,
         Entry {
             key: entry.key,
-            value,
+            value: entry.value,
         },
     )
 }
@@ -118,13 +117,13 @@ fn hidden_copy<D: DigestItem>(alloc: Global, digest: &D) -> Result<Part<D>, Erro
 
 // Hides a tree that forks, unless its digest is that of nothing, and copies another. Errors: those of the hashes, the lowest
 // first, then the leftmost; `OutOfMemory`.
-fn cover<D: DigestItem, T: MapHasher<D>>(
+fn cover<D: DigestItem, H: MapViews<Input = [u8; 32], Output = D>>(
     alloc: Global,
-    hasher: &T,
+    hasher: &MapHasher<H>,
     part: &Part<D>,
 ) -> Result<Part<D>, Error>
-    requires { IsKept D.numbers (T.hashes hasher.now) part.now }
-    ensures covered { AnswersBy (shape D.numbers) (covered (T.hashes hasher.now)
+    requires { IsKept D.numbers (H.hashes hasher.now) part.now }
+    ensures covered { AnswersBy (shape D.numbers) (covered (H.hashes hasher.now)
         (shape D.numbers part.now)) result }
     ensures digests { IfOk result (λ new. (h : MapHashes) → IsKept D.numbers h new) }
 {
@@ -146,14 +145,14 @@ fn cover<D: DigestItem, T: MapHasher<D>>(
 }
 
 // Hides a tree, or both its sides. Errors: as of `cover`.
-fn set_aside<D: DigestItem, T: MapHasher<D>>(
+fn set_aside<D: DigestItem, H: MapViews<Input = [u8; 32], Output = D>>(
     alloc: Global,
-    hasher: &T,
+    hasher: &MapHasher<H>,
     is_shown: bool,
     part: &Part<D>,
 ) -> Result<Part<D>, Error>
-    requires { IsKept D.numbers (T.hashes hasher.now) part.now }
-    ensures aside { AnswersBy (shape D.numbers) (aside (T.hashes hasher.now) is_shown
+    requires { IsKept D.numbers (H.hashes hasher.now) part.now }
+    ensures aside { AnswersBy (shape D.numbers) (aside (H.hashes hasher.now) is_shown
         (shape D.numbers part.now)) result }
     ensures digests { IfOk result (λ new. (h : MapHashes) → IsKept D.numbers h new) }
 {
@@ -174,9 +173,9 @@ fn set_aside<D: DigestItem, T: MapHasher<D>>(
 }
 
 // Copies a tree some levels below the root without what no key's way meets. Errors: as of `cover`.
-pub fn prune_in<D: DigestItem, T: MapHasher<D>>(
+pub fn prune_in<D: DigestItem, H: MapViews<Input = [u8; 32], Output = D>>(
     alloc: Global,
-    hasher: &T,
+    hasher: &MapHasher<H>,
     tops: bool,
     is_shown: bool,
     part: &Part<D>,
@@ -184,8 +183,8 @@ pub fn prune_in<D: DigestItem, T: MapHasher<D>>(
     keys: &[[u8; 32]],
 ) -> Result<Part<D>, Error>
     requires fits { FitsKeys level (shape D.numbers part.now) }
-    requires kept { IsKept D.numbers (T.hashes hasher.now) part.now }
-    ensures pruned { AnswersBy (shape D.numbers) (pruned (T.hashes hasher.now) tops is_shown level
+    requires kept { IsKept D.numbers (H.hashes hasher.now) part.now }
+    ensures pruned { AnswersBy (shape D.numbers) (pruned (H.hashes hasher.now) tops is_shown level
         keys.now (shape D.numbers part.now)) result }
     ensures digests { IfOk result (λ new. (h : MapHashes) → IsKept D.numbers h new) }
 {

@@ -9,7 +9,7 @@ ghost use Rattle.merkle_map.specs.Map.{MapHashes, bit_of as bit_in};
 ghost use Rattle.merkle_map.specs.Parts.{entry_seen, shape};
 ghost use Rattle.merkle_map.specs.Tree.{way, Fork as ForkOf, IsKey, One as OneOf, StandsAt};
 
-use crate::key::{are_same_keys, bit_of, copy_digest};
+use crate::key::{are_same_keys, bit_of};
 use crate::part::{Entry, Part, Sides, fork, hidden, one};
 use ark_base::error::Error;
 use ark_base::serialize::DigestItem;
@@ -28,9 +28,9 @@ fn have_same_bit(level: usize, a: &[u8; 32], b: &[u8; 32]) -> bool
 }
 
 // Joins two entries. The only error is `OutOfMemory`.
-fn two<D: DigestItem>(alloc: Global, left: Entry<D>, right: Entry<D>) -> Result<Part<D>, Error>
-    ensures made { AnswersBy (shape D.numbers) (Ok (ForkOf (OneOf (entry_seen D.numbers left))
-        (OneOf (entry_seen D.numbers right)))) result }
+fn two<D: DigestItem>(alloc: Global, left: Entry, right: Entry) -> Result<Part<D>, Error>
+    ensures made { AnswersBy (shape D.numbers) (Ok (ForkOf (OneOf (entry_seen left))
+        (OneOf (entry_seen right)))) result }
     ensures kept { IfOk result (λ new. (h : MapHashes) → IsKept D.numbers h new) }
 {
     let left = one(alloc, left)?;
@@ -42,8 +42,8 @@ fn two<D: DigestItem>(alloc: Global, left: Entry<D>, right: Entry<D>) -> Result<
 fn apart<D: DigestItem>(
     alloc: Global,
     level: usize,
-    own: Entry<D>,
-    other: Entry<D>,
+    own: Entry,
+    other: Entry,
 ) -> Result<Part<D>, Error>
     requires within { level ≤ 256 }
     requires own_key { IsKey own.key }
@@ -51,7 +51,7 @@ fn apart<D: DigestItem>(
     requires together { way level own.key ≡ way level other.key }
     requires differ { bytes_eq other.key own.key ≡ false }
     ensures made { AnswersBy (shape D.numbers) (Ok (two_of (256 - level) level
-        (entry_seen D.numbers own) (entry_seen D.numbers other))) result }
+        (entry_seen own) (entry_seen other))) result }
     ensures kept { IfOk result (λ new. (h : MapHashes) → IsKept D.numbers h new) }
 {
     if have_same_bit(level, &own.key, &other.key) {
@@ -74,8 +74,8 @@ fn apart<D: DigestItem>(
 fn apart_from<D: DigestItem>(
     alloc: Global,
     level: usize,
-    own: Entry<D>,
-    other: &Entry<D>,
+    own: Entry,
+    other: &Entry,
 ) -> Result<Part<D>, Error>
     requires within { level ≤ 256 }
     requires own_key { IsKey own.key }
@@ -83,13 +83,12 @@ fn apart_from<D: DigestItem>(
     requires together { way level own.key ≡ way level other.now.key }
     requires differ { bytes_eq other.now.key own.key ≡ false }
     ensures made { AnswersBy (shape D.numbers) (Ok (two_of (256 - level) level
-        (entry_seen D.numbers own) (entry_seen D.numbers other.now))) result }
+        (entry_seen own) (entry_seen other.now))) result }
     ensures kept { IfOk result (λ new. (h : MapHashes) → IsKept D.numbers h new) }
 {
-    let value = copy_digest(alloc, &other.value)?;
     let copy = Entry {
         key: other.key,
-        value,
+        value: other.value,
     };
     apart(alloc, level, own, copy)
 }
@@ -99,13 +98,13 @@ pub fn put_in<D: DigestItem>(
     alloc: Global,
     part: &mut Part<D>,
     level: usize,
-    own: Entry<D>,
+    own: Entry,
 ) -> Result<(), Error>
     requires within { level ≤ 256 }
     requires own_key { IsKey own.key }
     requires stands { StandsAt (way level own.key) (shape D.numbers part.old) }
     ensures changed { AnswersBy (λ _. shape D.numbers part.new)
-        (with_value level (entry_seen D.numbers own) (shape D.numbers part.old)) result }
+        (with_value level (entry_seen own) (shape D.numbers part.old)) result }
     ensures kept { OnErr result (shape D.numbers part.new ≡ shape D.numbers part.old) }
     ensures digests { (h : MapHashes) → IsKept D.numbers h part.old → IsKept D.numbers h part.new }
 {

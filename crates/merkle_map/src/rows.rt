@@ -7,7 +7,7 @@ ghost use Rattle.merkle_map.specs.Parts.{shape};
 ghost use Rattle.merkle_map.specs.Rows.{rows_of, rows_behind};
 
 use crate::bytes::push_string;
-use crate::hasher::MapHasher;
+use crate::hasher::{MapHasher, MapViews};
 use crate::part::Part;
 use ark_base::error::Error;
 use std::alloc::Global;
@@ -32,14 +32,14 @@ fn push_row(
 
 // Hashes a tree, and writes the rows of what it does not hide behind others. Errors, which may leave some: those of the hashes,
 // the lowest first, the left one among equals; `OutOfMemory`.
-pub fn push_tree_rows<T: MapHasher<[u8; 32]>>(
+pub fn push_tree_rows<H: MapViews<Input = [u8; 32], Output = [u8; 32]>>(
     alloc: Global,
-    hasher: &T,
+    hasher: &MapHasher<H>,
     part: &Part<[u8; 32]>,
     rows: &mut Vec<u8>,
 ) -> Result<[u8; 32], Error>
     ensures { AnswersBy (λ digest. (digest, rows.new.items)) (rows_behind rows.old.items
-        (rows_of (T.hashes hasher.now) (shape itself part.now))) result }
+        (rows_of (H.hashes hasher.now) (shape itself part.now))) result }
 {
     match part {
         Part::Empty => hasher.nothing(alloc),

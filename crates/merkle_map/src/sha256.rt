@@ -1,12 +1,14 @@
 //! The hashes of a map over SHA-256.
 
-ghost use Rattle.std.specs.Prelude.{◌≡◌, ◌≢◌, Ok, []};
+ghost use Rattle.std.specs.Prelude.{◌≡◌, [], Ok, refl};
 ghost use Rattle.merkle_map.specs.Map.{Node, digest_of};
 ghost use Rattle.merkle_map.specs.Sha256.{sha256_map, node_bytes, IsOf32};
 ghost use Rattle.sha2.specs.Sha256.{sha256};
 
-use crate::hasher::{HashedEntry, HashedPair, MapHasher};
+use crate::hasher::{MapHasher, MapViews};
 use ark_base::error::Error;
+use ark_crh::TwoToOneCRHScheme;
+use rand::Rng;
 use sha256_lanes::{digest_of_message, digest_of_pair, digests_of_pairs};
 use std::alloc::Global;
 
@@ -14,73 +16,90 @@ use std::alloc::Global;
 ///
 /// The digest of an entry is that of 0, the key and the value; of two digests, that of 1, the left and the right one; of
 /// nothing, that of no bytes.
-#[derive(Drop)]
-pub struct Sha256Map {
-    nothing: [u8; 32],
-    ghost is_hash: { nothing ≡ sha256 [] },
-}
+#[derive(Debug, Clone, Copy)]
+pub struct Sha256Map;
 
 impl Sha256Map {
-    /// Returns the hashes.
-    pub fn new() -> Sha256Map {
-        Sha256Map {
-            nothing: digest_of_message(None, &[]),
-        }
+    /// Returns the hasher.
+    pub fn new() -> MapHasher<Sha256Map>
+        ensures nothing { result.nothing ≡ sha256 [] }
+        ensures hashes { ⟦<Sha256Map as MapViews>⟧.hashes result ≡ sha256_map }
+    {
+        MapHasher::new((), digest_of_message(None, &[]))
     }
 }
 
-impl MapHasher<[u8; 32]> for Sha256Map {
-    ghost hashes = { λ _. sha256_map };
+impl TwoToOneCRHScheme for Sha256Map {
+    type Input = [u8; 32];
 
-    fn nothing(&self, _alloc: Global) -> Result<[u8; 32], Error> {
-        Ok(self.nothing)
+    type Output = [u8; 32];
+
+    type Parameters = ();
+
+    ghost evaluated = { λ _. sha256_map.leaf };
+
+    ghost compressed = { λ _. sha256_map.pair };
+
+    ghost setup_outcome = { Ok };
+
+    ghost is_made = { λ _ _. Unit {0} };
+
+    /// Draws nothing. The only error is `OutOfMemory`; the body allocates nothing.
+    fn setup<R: Rng>(_alloc: Global, _rng: &mut R) -> Result<(), Error> {
+        Ok(())
     }
 
-    fn leaf(&self, _alloc: Global, key: &[u8; 32], value: &[u8; 32]) -> Result<[u8; 32], Error> {
+    /// Hashes 0, the key and the value. The only error is `OutOfMemory`; the body allocates nothing.
+    fn evaluate(
+        _alloc: Global,
+        _parameters: &(),
+        key: &[u8; 32],
+        value: &[u8; 32],
+    ) -> Result<[u8; 32], Error> {
         Ok(digest_of_pair(Some(0), key, value))
     }
 
-    fn pair(&self, _alloc: Global, left: &[u8; 32], right: &[u8; 32]) -> Result<[u8; 32], Error> {
+    /// Hashes 1, the left and the right digest. The only error is `OutOfMemory`; the body allocates nothing.
+    fn compress(
+        _alloc: Global,
+        _parameters: &(),
+        left: &[u8; 32],
+        right: &[u8; 32],
+    ) -> Result<[u8; 32], Error> {
         Ok(digest_of_pair(Some(1), left, right))
     }
 
-    fn entries_together(
-        &self,
+    fn evaluate_ahead(
         alloc: Global,
-        entries: &[(&[u8; 32], &[u8; 32])],
-    ) -> Result<Vec<HashedEntry<[u8; 32]>>, Error> {
-        let mut digests = vec![in alloc; [0u8; 32]; entries.len()]?;
-        digests_of_pairs(Some(0), entries, &mut digests);
-        let mut made = Vec::with_capacity(alloc, entries.len())?;
-        'entries: for place in 0..entries.len() {
-            let (key, value) = entries[place];
-            made.push(HashedEntry {
-                key: *key,
-                value: *value,
-                digest: digests[place],
-            })?;
-        }
-        Ok(made)
+        _parameters: &(),
+        couples: &[(&[u8; 32], &[u8; 32])],
+    ) -> Result<Vec<[u8; 32]>, Error> {
+        let mut digests = vec![in alloc; [0u8; 32]; couples.len()]?;
+        digests_of_pairs(Some(0), couples, &mut digests);
+        Ok(digests)
     }
 
-    fn pairs_together(
-        &self,
+    fn compress_ahead(
         alloc: Global,
+        _parameters: &(),
         couples: &[(&[u8; 32], &[u8; 32])],
-    ) -> Result<Vec<HashedPair<[u8; 32]>>, Error> {
+    ) -> Result<Vec<[u8; 32]>, Error> {
         let mut digests = vec![in alloc; [0u8; 32]; couples.len()]?;
         digests_of_pairs(Some(1), couples, &mut digests);
-        let mut made = Vec::with_capacity(alloc, couples.len())?;
-        'couples: for place in 0..couples.len() {
-            let (left, right) = couples[place];
-            made.push(HashedPair {
-                left: *left,
-                right: *right,
-                digest: digests[place],
-            })?;
-        }
-        Ok(made)
+        Ok(digests)
     }
+
+    ghost evaluated_decided = { λ _ _ _. tt };
+
+    ghost compressed_decided = { λ _ _ _. tt };
+
+    ghost setup_decided = { λ _. tt };
+
+    ghost made_alike = { λ _ p q _ _. refl };
+
+    ghost evaluated_same = { λ p q same. refl };
+
+    ghost compressed_same = { λ p q same. refl };
 }
 
 /// States that different nodes have different bytes, so that two different nodes with one hash are a collision of SHA-256.

@@ -1,17 +1,19 @@
 //! Roots of trees that keep digests. Where much has changed, forks whose sides have digests are hashed together.
 
-ghost use Rattle.std.specs.Prelude.{◌≡◌, All, IfOk};
+ghost use Rattle.std.specs.Prelude.{◌≡◌, ◌<◌, length, map, true, All, IfOk};
 ghost use Rattle.ark_base.specs.Outcome.{AnswersBy};
+ghost use Rattle.ark_crh.specs.Ahead.{lent_couples, of_couple, AreOfFirst};
 ghost use Rattle.merkle_map.specs.Kept.{IsFor, IsKept};
 ghost use Rattle.merkle_map.specs.Parts.{shape};
-ghost use Rattle.merkle_map.specs.Together.{IsHashedPair, IsHashedEntry};
+ghost use Rattle.merkle_map.specs.Together.{IsHashedPair, AreHashedEntries};
 ghost use Rattle.merkle_map.specs.Tree.{shape_digest};
 
-use crate::hasher::{HashedEntry, HashedPair, MapHasher};
+use crate::hasher::{MapHasher, MapViews};
 use crate::key::{are_same_digests, are_same_keys, copy_digest};
 use crate::part::{Entry, Part, Sides};
 use ark_base::error::Error;
 use ark_base::serialize::DigestItem;
+use ark_crh::ahead::lend_couples;
 use std::alloc::Global;
 
 /// How many forks are hashed in a pass at most.
@@ -24,16 +26,16 @@ const PASSES: usize = 1 << 20;
 pub const FEW: usize = 4;
 
 // Hashes a tree, as far as no digest is kept, and keeps the digest of each fork. Errors: as of `digest_of`.
-pub fn fill<D: DigestItem, T: MapHasher<D>>(
+pub fn fill<D: DigestItem, H: MapViews<Input = [u8; 32], Output = D>>(
     alloc: Global,
-    hasher: &T,
+    hasher: &MapHasher<H>,
     part: &mut Part<D>,
 ) -> Result<D, Error>
-    requires { IsKept D.numbers (T.hashes hasher.now) part.old }
-    ensures digest { AnswersBy D.numbers (shape_digest (T.hashes hasher.now)
+    requires { IsKept D.numbers (H.hashes hasher.now) part.old }
+    ensures digest { AnswersBy D.numbers (shape_digest (H.hashes hasher.now)
         (shape D.numbers part.old)) result }
     ensures same { shape D.numbers part.new ≡ shape D.numbers part.old }
-    ensures kept { IsKept D.numbers (T.hashes hasher.now) part.new }
+    ensures kept { IsKept D.numbers (H.hashes hasher.now) part.new }
 {
     match part {
         Part::Empty => hasher.nothing(alloc),
@@ -89,15 +91,23 @@ struct Task<D> {
 // lower than `heights`.
 #[derive(Drop)]
 struct Work<D> {
-    entries: Vec<([u8; 32], D)>,
+    entries: Vec<([u8; 32], [u8; 32])>,
     forks: Vec<Task<D>>,
     heights: usize,
 }
 
-// What was hashed, and of each fork in the order of its work where it is.
+// Two digests, and the digest of both.
+#[derive(Drop)]
+struct HashedPair<D> {
+    left: D,
+    right: D,
+    digest: D,
+}
+
+// The digests of the first entries, the forks that were hashed, and of each fork in the order of its work where it is.
 #[derive(Drop)]
 struct Made<D> {
-    entries: Vec<HashedEntry<D>>,
+    entries: Vec<D>,
     forks: Vec<HashedPair<D>>,
     places: Vec<usize>,
 }
@@ -155,9 +165,9 @@ fn push_task<D: DigestItem>(
 }
 
 // Puts what a tree needs to have hashed behind the work, and returns where its digest comes from. The only error is `OutOfMemory`.
-fn gather<D: DigestItem, T: MapHasher<D>>(
+fn gather<D: DigestItem, H: MapViews<Input = [u8; 32], Output = D>>(
     alloc: Global,
-    hasher: &T,
+    hasher: &MapHasher<H>,
     part: &Part<D>,
     work: &mut Work<D>,
 ) -> Result<Source<D>, Error> {
@@ -168,8 +178,7 @@ fn gather<D: DigestItem, T: MapHasher<D>>(
         }
         Part::One { entry } => {
             let place = work.entries.len();
-            let value = copy_digest(alloc, &entry.value)?;
-            work.entries.push((entry.key, value))?;
+            work.entries.push((entry.key, entry.value))?;
             Ok(Source::Entry { place })
         }
         Part::Fork { sides } => {
@@ -196,36 +205,29 @@ fn gather<D: DigestItem, T: MapHasher<D>>(
     }
 }
 
-// Hashes the entries of the work. Errors: as of `entries_together`.
-fn hash_entries<D: DigestItem, T: MapHasher<D>>(
+// Hashes entries of the work together, from the left. The only error is `OutOfMemory`.
+fn hash_entries<D: DigestItem, H: MapViews<Input = [u8; 32], Output = D>>(
     alloc: Global,
-    hasher: &T,
+    hasher: &MapHasher<H>,
     work: &Work<D>,
-) -> Result<Vec<HashedEntry<D>>, Error>
-    ensures { IfOk result (λ made. All (IsHashedEntry D.numbers (T.hashes hasher.now))
+) -> Result<Vec<D>, Error>
+    ensures { IfOk result (λ made. AreHashedEntries D.numbers (H.hashes hasher.now) work.now.entries.items
         made.items) }
 {
-    let mut run = Vec::with_capacity(alloc, work.entries.len())?;
-    'entries: for place in 0..work.entries.len() {
-        let (key, value) = &work.entries[place];
-        run.push((key, value))?;
-    }
-    hasher.entries_together(alloc, &run)
+    let run = lend_couples(alloc, &work.entries)?;
+    hasher.leaves_ahead(alloc, &run)
 }
 
 // Returns a side's digest, if it was hashed.
 fn digest_from<'a, D: DigestItem>(
     side: &'a Source<D>,
-    entries: &'a [HashedEntry<D>],
+    entries: &'a [D],
     forks: &'a [HashedPair<D>],
     places: &[usize],
 ) -> Option<&'a D> {
     match side {
         Source::Digest { digest } => Some(digest),
-        Source::Entry { place } => {
-            let made = entries.get(*place)?;
-            Some(&made.digest)
-        }
+        Source::Entry { place } => { entries.get(*place) }
         Source::Fork { place, .. } => {
             let at = places.get(*place)?;
             let made = forks.get(*at)?;
@@ -235,18 +237,61 @@ fn digest_from<'a, D: DigestItem>(
     }
 }
 
-// Hashes the forks of one height together, those of which lower ones were hashed, and notes where each will be behind these. Errors:
-// as of `pairs_together`.
-fn hash_height<D: DigestItem, T: MapHasher<D>>(
+// Puts a digest beside the couple that it is of. The only error is `OutOfMemory`.
+fn pair_at<D: DigestItem, H: MapViews<Input = [u8; 32], Output = D>>(
     alloc: Global,
-    hasher: &T,
+    _hasher: &MapHasher<H>,
+    couples: &[(&D, &D)],
+    digests: &[D],
+    place: usize,
+) -> Result<HashedPair<D>, Error>
+    requires inside { place < length digests.now }
+    requires hashed { AreOfFirst (of_couple (H.hashes _hasher.now).pair)
+        (lent_couples D.numbers couples.now) (map D.numbers digests.now) }
+    ensures { IfOk result (IsHashedPair D.numbers (H.hashes _hasher.now)) }
+{
+    let couple = couples[place];
+    let left = copy_digest(alloc, couple.0)?;
+    let right = copy_digest(alloc, couple.1)?;
+    let digest = copy_digest(alloc, &digests[place])?;
+    Ok(HashedPair {
+        left,
+        right,
+        digest,
+    })
+}
+
+// Puts digests beside the couples that they are of. The only error is `OutOfMemory`.
+fn pairs_with<D: DigestItem, H: MapViews<Input = [u8; 32], Output = D>>(
+    alloc: Global,
+    hasher: &MapHasher<H>,
+    couples: &[(&D, &D)],
+    digests: &[D],
+) -> Result<Vec<HashedPair<D>>, Error>
+    requires { AreOfFirst (of_couple (H.hashes hasher.now).pair)
+        (lent_couples D.numbers couples.now) (map D.numbers digests.now) }
+    ensures { IfOk result (λ made. All (IsHashedPair D.numbers (H.hashes hasher.now)) made.items) }
+{
+    let mut made = Vec::with_capacity(alloc, digests.len())?;
+    'digests: for place in 0..digests.len() {
+        let pair = pair_at(alloc, hasher, couples, digests, place)?;
+        made.push(pair)?;
+    }
+    Ok(made)
+}
+
+// Hashes the forks of one height together, those of which lower ones were hashed, and notes where each will be behind these. The
+// only error is `OutOfMemory`.
+fn hash_height<D: DigestItem, H: MapViews<Input = [u8; 32], Output = D>>(
+    alloc: Global,
+    hasher: &MapHasher<H>,
     work: &Work<D>,
     height: usize,
-    entries: &[HashedEntry<D>],
+    entries: &[D],
     forks: &[HashedPair<D>],
     places: &mut [usize],
 ) -> Result<Vec<HashedPair<D>>, Error>
-    ensures { IfOk result (λ made. All (IsHashedPair D.numbers (T.hashes hasher.now)) made.items) }
+    ensures { IfOk result (λ made. All (IsHashedPair D.numbers (H.hashes hasher.now)) made.items) }
 {
     let mut run = Vec::new(alloc);
     let mut next = forks.len();
@@ -264,18 +309,19 @@ fn hash_height<D: DigestItem, T: MapHasher<D>>(
             next = next.wrapping_add(1);
         }
     }
-    hasher.pairs_together(alloc, &run)
+    let digests = hasher.pairs_ahead(alloc, &run)?;
+    pairs_with(alloc, hasher, &run, &digests)
 }
 
-// Hashes the work, the lowest forks first. Errors: those of the hashes; `OutOfMemory`.
-fn hash_work<D: DigestItem, T: MapHasher<D>>(
+// Hashes the work, the lowest forks first. The only error is `OutOfMemory`.
+fn hash_work<D: DigestItem, H: MapViews<Input = [u8; 32], Output = D>>(
     alloc: Global,
-    hasher: &T,
+    hasher: &MapHasher<H>,
     work: &Work<D>,
 ) -> Result<Made<D>, Error>
-    ensures entries { IfOk result (λ made. All (IsHashedEntry D.numbers (T.hashes hasher.now))
-        made.entries.items) }
-    ensures forks { IfOk result (λ made. All (IsHashedPair D.numbers (T.hashes hasher.now))
+    ensures entries { IfOk result (λ made. AreHashedEntries D.numbers (H.hashes hasher.now)
+        work.now.entries.items made.entries.items) }
+    ensures forks { IfOk result (λ made. All (IsHashedPair D.numbers (H.hashes hasher.now))
         made.forks.items) }
 {
     let entries = hash_entries(alloc, hasher, work)?;
@@ -295,39 +341,47 @@ fn hash_work<D: DigestItem, T: MapHasher<D>>(
     })
 }
 
+// Returns whether a key with its value is the entry.
+fn is_entry(own: &([u8; 32], [u8; 32]), entry: &Entry) -> bool
+    ensures key { result ≡ true → own.now.0 ≡ entry.now.key }
+    ensures value { result ≡ true → own.now.1 ≡ entry.now.value }
+{
+    are_same_keys(&own.0, &entry.key) && are_same_keys(&own.1, &entry.value)
+}
+
 // Returns an entry's digest, if it is the entry that was hashed at a place. The only error is `OutOfMemory`.
-fn entry_digest<D: DigestItem, T: MapHasher<D>>(
+fn entry_digest<D: DigestItem, H: MapViews<Input = [u8; 32], Output = D>>(
     alloc: Global,
-    _hasher: &T,
-    entry: &Entry<D>,
-    entries: &[HashedEntry<D>],
+    _hasher: &MapHasher<H>,
+    entry: &Entry,
+    entries: &[([u8; 32], [u8; 32])],
+    digests: &[D],
     place: usize,
 ) -> Result<Option<D>, Error>
-    requires { All (IsHashedEntry D.numbers (T.hashes _hasher.now)) entries.now }
-    ensures { IfOk result (IsFor D.numbers ((T.hashes _hasher.now).leaf entry.now.key
-        (D.numbers entry.now.value))) }
+    requires { AreHashedEntries D.numbers (H.hashes _hasher.now) entries.now digests.now }
+    ensures { IfOk result (IsFor D.numbers ((H.hashes _hasher.now).leaf entry.now.key entry.now.value)) }
 {
-    let Some(made) = entries.get(place) else {
+    if place >= entries.len() || place >= digests.len() {
         return Ok(None);
-    };
-    if are_same_keys(&made.key, &entry.key) && are_same_digests(&made.value, &entry.value) {
-        let own = copy_digest(alloc, &made.digest)?;
-        return Ok(Some(own));
+    }
+    if is_entry(&entries[place], entry) {
+        let digest = copy_digest(alloc, &digests[place])?;
+        return Ok(Some(digest));
     }
     Ok(None)
 }
 
 // Returns the digest of two, if they were hashed at a place. The only error is `OutOfMemory`.
-fn pair_digest<D: DigestItem, T: MapHasher<D>>(
+fn pair_digest<D: DigestItem, H: MapViews<Input = [u8; 32], Output = D>>(
     alloc: Global,
-    _hasher: &T,
+    _hasher: &MapHasher<H>,
     left: &D,
     right: &D,
     forks: &[HashedPair<D>],
     place: usize,
 ) -> Result<Option<D>, Error>
-    requires { All (IsHashedPair D.numbers (T.hashes _hasher.now)) forks.now }
-    ensures { IfOk result (IsFor D.numbers ((T.hashes _hasher.now).pair (D.numbers left.now)
+    requires { All (IsHashedPair D.numbers (H.hashes _hasher.now)) forks.now }
+    ensures { IfOk result (IsFor D.numbers ((H.hashes _hasher.now).pair (D.numbers left.now)
         (D.numbers right.now))) }
 {
     let Some(made) = forks.get(place) else {
@@ -342,19 +396,21 @@ fn pair_digest<D: DigestItem, T: MapHasher<D>>(
 
 // Keeps what was hashed, in the order of `gather`, and returns the tree's digest, if it is known now. The only error is
 // `OutOfMemory`.
-fn scatter<D: DigestItem, T: MapHasher<D>>(
+fn scatter<D: DigestItem, H: MapViews<Input = [u8; 32], Output = D>>(
     alloc: Global,
-    hasher: &T,
+    hasher: &MapHasher<H>,
     part: &mut Part<D>,
+    work: &Work<D>,
     made: &Made<D>,
     passed: &mut Passed,
 ) -> Result<Option<D>, Error>
-    requires kept { IsKept D.numbers (T.hashes hasher.now) part.old }
-    requires entries { All (IsHashedEntry D.numbers (T.hashes hasher.now)) made.now.entries.items }
-    requires forks { All (IsHashedPair D.numbers (T.hashes hasher.now)) made.now.forks.items }
+    requires kept { IsKept D.numbers (H.hashes hasher.now) part.old }
+    requires entries { AreHashedEntries D.numbers (H.hashes hasher.now) work.now.entries.items
+        made.now.entries.items }
+    requires forks { All (IsHashedPair D.numbers (H.hashes hasher.now)) made.now.forks.items }
     ensures same { shape D.numbers part.new ≡ shape D.numbers part.old }
-    ensures kept { IsKept D.numbers (T.hashes hasher.now) part.new }
-    ensures digest { IfOk result (IsFor D.numbers (shape_digest (T.hashes hasher.now)
+    ensures kept { IsKept D.numbers (H.hashes hasher.now) part.new }
+    ensures digest { IfOk result (IsFor D.numbers (shape_digest (H.hashes hasher.now)
         (shape D.numbers part.old))) }
 {
     match part {
@@ -366,7 +422,7 @@ fn scatter<D: DigestItem, T: MapHasher<D>>(
             let entry = &mut **entry;
             let place = passed.entries;
             passed.entries = place.wrapping_add(1);
-            entry_digest(alloc, hasher, entry, &made.entries, place)
+            entry_digest(alloc, hasher, entry, &work.entries, &made.entries, place)
         }
         Part::Fork { sides } => {
             let Sides {
@@ -381,8 +437,8 @@ fn scatter<D: DigestItem, T: MapHasher<D>>(
             if passed.forks >= made.places.len() {
                 return Ok(None);
             }
-            let on_left = scatter(alloc, hasher, left, made, passed)?;
-            let on_right = scatter(alloc, hasher, right, made, passed)?;
+            let on_left = scatter(alloc, hasher, left, work, made, passed)?;
+            let on_right = scatter(alloc, hasher, right, work, made, passed)?;
             let Some(l) = on_left else {
                 return Ok(None);
             };
@@ -409,16 +465,15 @@ fn scatter<D: DigestItem, T: MapHasher<D>>(
     }
 }
 
-// Hashes forks together once, and keeps their digests. Returns whether it kept all that a pass takes: then more may be left. A
-// hasher that returns its pairs in another order is asked once.
-fn pass<D: DigestItem, T: MapHasher<D>>(
+// Hashes forks together once, and keeps their digests. Returns whether it kept all that a pass takes: then more may be left.
+fn pass<D: DigestItem, H: MapViews<Input = [u8; 32], Output = D>>(
     alloc: Global,
-    hasher: &T,
+    hasher: &MapHasher<H>,
     part: &mut Part<D>,
 ) -> Result<bool, Error>
-    requires { IsKept D.numbers (T.hashes hasher.now) part.old }
+    requires { IsKept D.numbers (H.hashes hasher.now) part.old }
     ensures same { shape D.numbers part.new ≡ shape D.numbers part.old }
-    ensures kept { IsKept D.numbers (T.hashes hasher.now) part.new }
+    ensures kept { IsKept D.numbers (H.hashes hasher.now) part.new }
 {
     let mut work = Work {
         entries: Vec::new(alloc),
@@ -435,22 +490,22 @@ fn pass<D: DigestItem, T: MapHasher<D>>(
         forks: 0,
         kept: 0,
     };
-    scatter(alloc, hasher, part, &made, &mut passed)?;
+    scatter(alloc, hasher, part, &work, &made, &mut passed)?;
     Ok(passed.kept >= MOST)
 }
 
 // Hashes a tree, as far as no digest is kept, and keeps the digest of each fork. Errors: as of `digest_of`.
 #[inline(never)]
-pub fn fill_together<D: DigestItem, T: MapHasher<D>>(
+pub fn fill_together<D: DigestItem, H: MapViews<Input = [u8; 32], Output = D>>(
     alloc: Global,
-    hasher: &T,
+    hasher: &MapHasher<H>,
     part: &mut Part<D>,
 ) -> Result<D, Error>
-    requires { IsKept D.numbers (T.hashes hasher.now) part.old }
-    ensures digest { AnswersBy D.numbers (shape_digest (T.hashes hasher.now)
+    requires { IsKept D.numbers (H.hashes hasher.now) part.old }
+    ensures digest { AnswersBy D.numbers (shape_digest (H.hashes hasher.now)
         (shape D.numbers part.old)) result }
     ensures same { shape D.numbers part.new ≡ shape D.numbers part.old }
-    ensures kept { IsKept D.numbers (T.hashes hasher.now) part.new }
+    ensures kept { IsKept D.numbers (H.hashes hasher.now) part.new }
 {
     // What a pass refuses, `fill` refuses again, or does without; and it hashes what is left behind the last pass.
     'passes: for _ in 0..PASSES {

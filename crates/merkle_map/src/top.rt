@@ -13,7 +13,7 @@ ghost use Rattle.merkle_map.specs.Rows.{rows_behind, rows_of};
 ghost use Rattle.merkle_map.specs.Tree.{shape_digest, IsKey, StandsAt};
 
 use crate::bytes::{push_hidden, write_part};
-use crate::hasher::MapHasher;
+use crate::hasher::{MapHasher, MapViews};
 use crate::key::copy_digest;
 use crate::part::{Entry, Part, digest_of, find_entry, hidden};
 use crate::proof::{End, climb_down};
@@ -35,10 +35,13 @@ pub enum Top<D> {
 }
 
 // As `find`.
-pub fn find_top<'a, D: DigestItem>(top: &'a Top<D>, key: &[u8; 32]) -> Result<Option<&'a D>, Error>
+pub fn find_top<'a, D: DigestItem>(
+    top: &'a Top<D>,
+    key: &[u8; 32],
+) -> Result<Option<&'a [u8; 32]>, Error>
     requires { StandsAt [] (top_shape D.numbers top.now) }
     ensures { known_at 0 key.now (top_shape D.numbers top.now)
-        ≡ found_seen (λ value. D.numbers value.now) result }
+        ≡ found_seen (λ value. value.now) result }
 {
     match top {
         Top::Shown { part } => find_entry(part, 0, key),
@@ -47,11 +50,11 @@ pub fn find_top<'a, D: DigestItem>(top: &'a Top<D>, key: &[u8; 32]) -> Result<Op
 }
 
 // As `put_in`.
-pub fn put_top<D: DigestItem>(alloc: Global, top: &mut Top<D>, own: Entry<D>) -> Result<(), Error>
+pub fn put_top<D: DigestItem>(alloc: Global, top: &mut Top<D>, own: Entry) -> Result<(), Error>
     requires own_key { IsKey own.key }
     requires stands { StandsAt [] (top_shape D.numbers top.old) }
     ensures changed { AnswersBy (λ _. top_shape D.numbers top.new)
-        (with_value 0 (entry_seen D.numbers own) (top_shape D.numbers top.old)) result }
+        (with_value 0 (entry_seen own) (top_shape D.numbers top.old)) result }
     ensures kept { OnErr result (top_shape D.numbers top.new ≡ top_shape D.numbers top.old) }
     ensures digests { (h : MapHashes) → IsTopKept D.numbers h top.old
         → IsTopKept D.numbers h top.new }
@@ -63,15 +66,15 @@ pub fn put_top<D: DigestItem>(alloc: Global, top: &mut Top<D>, own: Entry<D>) ->
 }
 
 // As `remove_from`. The other error, which leaves the tree unchanged, is `OutOfMemory`.
-pub fn remove_top<D: DigestItem, T: MapHasher<D>>(
+pub fn remove_top<D: DigestItem, H: MapViews<Input = [u8; 32], Output = D>>(
     alloc: Global,
-    hasher: &T,
+    hasher: &MapHasher<H>,
     top: &mut Top<D>,
     key: &[u8; 32],
 ) -> Result<(), Error>
     requires { StandsAt [] (top_shape D.numbers top.old) }
     ensures changed { AnswersBy (λ _. top_shape D.numbers top.new)
-        (tree_without (T.hashes hasher.now).nothing key.now (top_shape D.numbers top.old)) result }
+        (tree_without (H.hashes hasher.now).nothing key.now (top_shape D.numbers top.old)) result }
     ensures kept { OnErr result (top_shape D.numbers top.new ≡ top_shape D.numbers top.old) }
     ensures digests { (h : MapHashes) → IsTopKept D.numbers h top.old
         → IsTopKept D.numbers h top.new }
@@ -86,13 +89,13 @@ pub fn remove_top<D: DigestItem, T: MapHasher<D>>(
 }
 
 // As `digest_of`.
-pub fn digest_of_top<D: DigestItem, T: MapHasher<D>>(
+pub fn digest_of_top<D: DigestItem, H: MapViews<Input = [u8; 32], Output = D>>(
     alloc: Global,
-    hasher: &T,
+    hasher: &MapHasher<H>,
     top: &Top<D>,
 ) -> Result<D, Error>
-    requires { IsTopKept D.numbers (T.hashes hasher.now) top.now }
-    ensures { AnswersBy D.numbers (shape_digest (T.hashes hasher.now)
+    requires { IsTopKept D.numbers (H.hashes hasher.now) top.now }
+    ensures { AnswersBy D.numbers (shape_digest (H.hashes hasher.now)
         (top_shape D.numbers top.now)) result }
 {
     match top {
@@ -102,16 +105,16 @@ pub fn digest_of_top<D: DigestItem, T: MapHasher<D>>(
 }
 
 // As `prune_in`.
-pub fn prune_top<D: DigestItem, T: MapHasher<D>>(
+pub fn prune_top<D: DigestItem, H: MapViews<Input = [u8; 32], Output = D>>(
     alloc: Global,
-    hasher: &T,
+    hasher: &MapHasher<H>,
     tops: bool,
     top: &Top<D>,
     keys: &[[u8; 32]],
 ) -> Result<Top<D>, Error>
     requires fits { FitsKeys 0 (top_shape D.numbers top.now) }
-    requires kept { IsTopKept D.numbers (T.hashes hasher.now) top.now }
-    ensures pruned { AnswersBy (top_shape D.numbers) (pruned (T.hashes hasher.now) tops false 0
+    requires kept { IsTopKept D.numbers (H.hashes hasher.now) top.now }
+    ensures pruned { AnswersBy (top_shape D.numbers) (pruned (H.hashes hasher.now) tops false 0
         keys.now (top_shape D.numbers top.now)) result }
     ensures digests { IfOk result (λ new. (h : MapHashes) → IsTopKept D.numbers h new) }
 {
@@ -128,18 +131,18 @@ pub fn prune_top<D: DigestItem, T: MapHasher<D>>(
 }
 
 // As `climb_down`.
-pub fn climb_top<D: DigestItem, T: MapHasher<D>>(
+pub fn climb_top<D: DigestItem, H: MapViews<Input = [u8; 32], Output = D>>(
     alloc: Global,
-    hasher: &T,
+    hasher: &MapHasher<H>,
     top: &Top<D>,
     key: &[u8; 32],
     siblings: &mut Vec<D>,
-) -> Result<End<D>, Error>
+) -> Result<End, Error>
     requires stands { StandsAt [] (top_shape D.numbers top.now) }
-    requires kept { IsTopKept D.numbers (T.hashes hasher.now) top.now }
-    ensures { AnswersBy (seen_with D.numbers (map D.numbers siblings.new.items))
+    requires kept { IsTopKept D.numbers (H.hashes hasher.now) top.now }
+    ensures { AnswersBy (seen_with (map D.numbers siblings.new.items))
         (behind_all (map D.numbers siblings.old.items)
-        (proof_at (T.hashes hasher.now) 0 key.now (top_shape D.numbers top.now))) result }
+        (proof_at (H.hashes hasher.now) 0 key.now (top_shape D.numbers top.now))) result }
 {
     match top {
         Top::Shown { part } => climb_down(alloc, hasher, part, 0, key, siblings),
@@ -161,14 +164,14 @@ pub fn write_top(top: &Top<[u8; 32]>, dest: &mut Vec<u8>) -> Result<(), Error>
 }
 
 // As `push_tree_rows`.
-pub fn push_rows_of_top<T: MapHasher<[u8; 32]>>(
+pub fn push_rows_of_top<H: MapViews<Input = [u8; 32], Output = [u8; 32]>>(
     alloc: Global,
-    hasher: &T,
+    hasher: &MapHasher<H>,
     top: &Top<[u8; 32]>,
     rows: &mut Vec<u8>,
 ) -> Result<[u8; 32], Error>
     ensures { AnswersBy (λ digest. (digest, rows.new.items)) (rows_behind rows.old.items
-        (rows_of (T.hashes hasher.now) (top_shape itself top.now))) result }
+        (rows_of (H.hashes hasher.now) (top_shape itself top.now))) result }
 {
     match top {
         Top::Shown { part } => push_tree_rows(alloc, hasher, part, rows),

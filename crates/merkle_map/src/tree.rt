@@ -14,7 +14,7 @@ ghost use Rattle.merkle_map.specs.Tree.{shape_digest, Empty, Hidden, IsWhole, Sh
 ghost use Rattle.merkle_map.specs.Whole.{IsRootOf, Stores};
 
 use crate::bytes::part_of_bytes;
-use crate::hasher::MapHasher;
+use crate::hasher::{MapHasher, MapViews};
 use crate::key::are_same_digests;
 use crate::part::{Entry, Part};
 use crate::proof::KeyProof;
@@ -75,13 +75,13 @@ impl<D: DigestItem> MapTree<D> {
     }
 
     /// Returns what the map has at a key. The error is `HIDDEN`: the tree hides it.
-    pub fn get(&self, key: &[u8; 32]) -> Result<Option<&D>, Error>
+    pub fn get(&self, key: &[u8; 32]) -> Result<Option<&[u8; 32]>, Error>
         ensures found { known_at 0 key.now self.now
-            ≡ found_seen (λ value. D.numbers value.now) result }
+            ≡ found_seen (λ value. value.now) result }
 
         // Each map that the tree shows has this at the key.
         ensures maps { IfOk result (λ found. Has self.now key.now
-            (value_seen (λ value. D.numbers value.now) found)) }
+            (value_seen (λ value. value.now) found)) }
     {
         find_top(&self.top, key)
     }
@@ -89,17 +89,17 @@ impl<D: DigestItem> MapTree<D> {
     /// Puts a value at a key.
     ///
     /// Errors, which leave the tree unchanged: `HIDDEN`: the tree hides the key's place; `OutOfMemory`.
-    pub fn insert(&mut self, alloc: Global, key: &[u8; 32], value: D) -> Result<(), Error>
+    pub fn insert(&mut self, alloc: Global, key: &[u8; 32], value: [u8; 32]) -> Result<(), Error>
         ensures changed { AnswersBy (λ _. self.new)
-            (tree_with_value key.now (D.numbers value) self.old)
+            (tree_with_value key.now value self.old)
             result }
         ensures kept { OnErr result (self.new ≡ self.old) }
 
         // Each map that the tree showed is shown now with the value at the key.
-        ensures maps { OnOk result (Follows (put key.now (D.numbers value)) self.old self.new) }
+        ensures maps { OnOk result (Follows (put key.now value) self.old self.new) }
 
         // A store becomes the store of the map with the value.
-        ensures store { Stores (put key.now (D.numbers value)) self.old self.new result }
+        ensures store { Stores (put key.now value) self.old self.new result }
     {
         put_top(alloc, &mut self.top, Entry { key: *key, value })
     }
@@ -108,18 +108,18 @@ impl<D: DigestItem> MapTree<D> {
     ///
     /// Errors, which leave the tree unchanged: `HIDDEN`: the tree hides what is at the key, what stands alone once the entry is
     /// gone, or a tree with the digest of nothing beside an entry that is left; `OutOfMemory`.
-    pub fn remove<T: MapHasher<D>>(
+    pub fn remove<H: MapViews<Input = [u8; 32], Output = D>>(
         &mut self,
         alloc: Global,
-        hasher: &T,
+        hasher: &MapHasher<H>,
         key: &[u8; 32],
     ) -> Result<(), Error>
         ensures changed { AnswersBy (λ _. self.new)
-            (tree_without (T.hashes hasher.now).nothing key.now self.old) result }
+            (tree_without (H.hashes hasher.now).nothing key.now self.old) result }
         ensures kept { OnErr result (self.new ≡ self.old) }
 
         // Each map that the tree showed is shown now without the key.
-        ensures maps { OnOk result (FollowsBy (T.hashes hasher.now) (without key.now) self.old
+        ensures maps { OnOk result (FollowsBy (H.hashes hasher.now) (without key.now) self.old
             self.new) }
 
         // A store becomes the store of the map without the key.
@@ -129,51 +129,55 @@ impl<D: DigestItem> MapTree<D> {
     }
 
     /// Returns the digest of the tree. Errors: those of the hashes, the lowest first, then the leftmost; `OutOfMemory`.
-    pub fn root<T: MapHasher<D>>(&self, alloc: Global, hasher: &T) -> Result<D, Error>
-        ensures digest { AnswersBy D.numbers (shape_digest (T.hashes hasher.now) self.now) result }
+    pub fn root<H: MapViews<Input = [u8; 32], Output = D>>(
+        &self,
+        alloc: Global,
+        hasher: &MapHasher<H>,
+    ) -> Result<D, Error>
+        ensures digest { AnswersBy D.numbers (shape_digest (H.hashes hasher.now) self.now) result }
 
         // It is the root of each map that the tree shows.
-        ensures maps { (entries : List EntryOf) → Shows (T.hashes hasher.now) 0 self.now entries
-            → root_of_map (T.hashes hasher.now) entries
-            ≡ shape_digest (T.hashes hasher.now) self.now }
-        ensures store { IsRootOf (T.hashes hasher.now) self.now }
+        ensures maps { (entries : List EntryOf) → Shows (H.hashes hasher.now) 0 self.now entries
+            → root_of_map (H.hashes hasher.now) entries
+            ≡ shape_digest (H.hashes hasher.now) self.now }
+        ensures store { IsRootOf (H.hashes hasher.now) self.now }
     {
         digest_of_top(alloc, hasher, &self.top)
     }
 
     /// Returns whether the tree has this root. Errors: as of `root`.
-    pub fn has_root<T: MapHasher<D>>(
+    pub fn has_root<H: MapViews<Input = [u8; 32], Output = D>>(
         &self,
         alloc: Global,
-        hasher: &T,
+        hasher: &MapHasher<H>,
         root: &D,
     ) -> Result<bool, Error>
-        ensures answer { Answers (has_digest (T.hashes hasher.now) (D.numbers root.now) self.now)
+        ensures answer { Answers (has_digest (H.hashes hasher.now) (D.numbers root.now) self.now)
             result }
 
         // It shows each map with this root, or below some bits the tree and the map's own tree have two different nodes with
         // one hash.
         ensures bound { IfOk result (λ accepted. accepted ≡ true
-            → BindsTree (T.hashes hasher.now) (D.numbers root.now) self.now) }
+            → BindsTree (H.hashes hasher.now) (D.numbers root.now) self.now) }
     {
         let digest = self.root(alloc, hasher)?;
         Ok(are_same_digests(&digest, root))
     }
 
     // Copies the tree without what no key's way meets, or with the tops of that which removals need.
-    fn pruned_for<T: MapHasher<D>>(
+    fn pruned_for<H: MapViews<Input = [u8; 32], Output = D>>(
         &self,
         alloc: Global,
-        hasher: &T,
+        hasher: &MapHasher<H>,
         tops: bool,
         keys: &[[u8; 32]],
     ) -> Result<MapTree<D>, Error>
-        ensures answer { AnswersBy (λ new. new) (pruned (T.hashes hasher.now) tops false 0
+        ensures answer { AnswersBy (λ new. new) (pruned (H.hashes hasher.now) tops false 0
             keys.now self.now) result }
-        ensures digest { IfOk result (λ new. shape_digest (T.hashes hasher.now) new
-            ≡ shape_digest (T.hashes hasher.now) self.now) }
+        ensures digest { IfOk result (λ new. shape_digest (H.hashes hasher.now) new
+            ≡ shape_digest (H.hashes hasher.now) self.now) }
         ensures known { IfOk result (KnowsSame keys.now self.now) }
-        ensures maps { IfOk result (ShowsSame (T.hashes hasher.now) self.now) }
+        ensures maps { IfOk result (ShowsSame (H.hashes hasher.now) self.now) }
         ensures stands { StandsAt [] self.now }
     {
         let top = prune_top(alloc, hasher, tops, &self.top, keys)?;
@@ -184,20 +188,20 @@ impl<D: DigestItem> MapTree<D> {
     /// be put at each of them.
     ///
     /// Errors: those of the hashes, the lowest first, then the leftmost; `OutOfMemory`.
-    pub fn prove<T: MapHasher<D>>(
+    pub fn prove<H: MapViews<Input = [u8; 32], Output = D>>(
         &self,
         alloc: Global,
-        hasher: &T,
+        hasher: &MapHasher<H>,
         keys: &[[u8; 32]],
     ) -> Result<MapTree<D>, Error>
-        ensures answer { AnswersBy (λ new. new) (pruned (T.hashes hasher.now) false false 0
+        ensures answer { AnswersBy (λ new. new) (pruned (H.hashes hasher.now) false false 0
             keys.now self.now) result }
 
         // The proof has the tree's root, and has the same as the tree at each of the keys.
-        ensures digest { IfOk result (λ new. shape_digest (T.hashes hasher.now) new
-            ≡ shape_digest (T.hashes hasher.now) self.now) }
+        ensures digest { IfOk result (λ new. shape_digest (H.hashes hasher.now) new
+            ≡ shape_digest (H.hashes hasher.now) self.now) }
         ensures known { IfOk result (KnowsSame keys.now self.now) }
-        ensures maps { IfOk result (ShowsSame (T.hashes hasher.now) self.now) }
+        ensures maps { IfOk result (ShowsSame (H.hashes hasher.now) self.now) }
     {
         self.pruned_for(alloc, hasher, false, keys)
     }
@@ -206,22 +210,22 @@ impl<D: DigestItem> MapTree<D> {
     /// On the witness of a tree that hides nothing all changes of these keys can be made, in any order.
     ///
     /// Errors: those of the hashes, the lowest first, then the leftmost; `OutOfMemory`.
-    pub fn witness<T: MapHasher<D>>(
+    pub fn witness<H: MapViews<Input = [u8; 32], Output = D>>(
         &self,
         alloc: Global,
-        hasher: &T,
+        hasher: &MapHasher<H>,
         keys: &[[u8; 32]],
     ) -> Result<MapTree<D>, Error>
-        ensures answer { AnswersBy (λ new. new) (pruned (T.hashes hasher.now) true false 0
+        ensures answer { AnswersBy (λ new. new) (pruned (H.hashes hasher.now) true false 0
             keys.now self.now) result }
-        ensures digest { IfOk result (λ new. shape_digest (T.hashes hasher.now) new
-            ≡ shape_digest (T.hashes hasher.now) self.now) }
+        ensures digest { IfOk result (λ new. shape_digest (H.hashes hasher.now) new
+            ≡ shape_digest (H.hashes hasher.now) self.now) }
         ensures known { IfOk result (KnowsSame keys.now self.now) }
-        ensures maps { IfOk result (ShowsSame (T.hashes hasher.now) self.now) }
+        ensures maps { IfOk result (ShowsSame (H.hashes hasher.now) self.now) }
         ensures removes { IfOk result (λ new. IsWhole self.now
-            → CanLose (T.hashes hasher.now).nothing keys.now new) }
+            → CanLose (H.hashes hasher.now).nothing keys.now new) }
         ensures changes { IfOk result (λ new. IsWhole self.now
-            → CanChange (T.hashes hasher.now).nothing keys.now new) }
+            → CanChange (H.hashes hasher.now).nothing keys.now new) }
     {
         self.pruned_for(alloc, hasher, true, keys)
     }
@@ -230,17 +234,17 @@ impl<D: DigestItem> MapTree<D> {
     ///
     /// Errors: that of the highest side beside the key's way whose hash refuses; `HIDDEN`: the tree hides what is at the key;
     /// `OutOfMemory`.
-    pub fn prove_key<T: MapHasher<D>>(
+    pub fn prove_key<H: MapViews<Input = [u8; 32], Output = D>>(
         &self,
         alloc: Global,
-        hasher: &T,
+        hasher: &MapHasher<H>,
         key: &[u8; 32],
     ) -> Result<KeyProof<D>, Error>
-        ensures answer { AnswersBy (proof_seen D.numbers) (proof_at (T.hashes hasher.now) 0 key.now
+        ensures answer { AnswersBy (proof_seen D.numbers) (proof_at (H.hashes hasher.now) 0 key.now
             self.now) result }
 
         // The tree's root accepts it.
-        ensures accepted { IfOk result (λ proof. IsKeyProofAccepted (T.hashes hasher.now) key.now
+        ensures accepted { IfOk result (λ proof. IsKeyProofAccepted (H.hashes hasher.now) key.now
             self.now
             (proof_seen D.numbers proof)) }
     {
@@ -265,14 +269,14 @@ impl MapTree<[u8; 32]> {
     /// above: the node's digest, and the bytes that a store keeps: for an entry 0, key and value; for a fork 1 and two digests.
     ///
     /// Errors: those of the hashes, the lowest first, then the leftmost; `OutOfMemory`.
-    pub fn rows<T: MapHasher<[u8; 32]>>(
+    pub fn rows<H: MapViews<Input = [u8; 32], Output = [u8; 32]>>(
         &self,
         alloc: Global,
-        hasher: &T,
+        hasher: &MapHasher<H>,
     ) -> Result<([u8; 32], Vec<u8>), Error>
-        ensures rows { AnswersBy (λ made. (made.0, made.1.items)) (rows_of (T.hashes hasher.now)
+        ensures rows { AnswersBy (λ made. (made.0, made.1.items)) (rows_of (H.hashes hasher.now)
             self.now) result }
-        ensures digest { AnswersBy (λ made. made.0) (shape_digest (T.hashes hasher.now) self.now)
+        ensures digest { AnswersBy (λ made. made.0) (shape_digest (H.hashes hasher.now) self.now)
             result }
     {
         let mut rows = Vec::new(alloc);

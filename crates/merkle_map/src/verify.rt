@@ -6,7 +6,7 @@ ghost use Rattle.merkle_map.specs.Binding.{BindsValue};
 ghost use Rattle.merkle_map.specs.Map.{Nothing, leaf_of};
 ghost use Rattle.merkle_map.specs.Way.{way_verdict, verdict_from, other_verdict};
 
-use crate::hasher::{MapHasher, hash_with_sibling};
+use crate::hasher::{MapHasher, MapViews, hash_with_sibling};
 use crate::key::{are_same_keys, bit_of};
 use ark_base::error::Error;
 use ark_base::serialize::DigestItem;
@@ -17,16 +17,16 @@ pub const KEY_BITS: usize = 256;
 
 // Returns whether digests lead from the digest of a way's end to a root. Errors: those of the hash of pairs, the lowest first;
 // `OutOfMemory`.
-fn leads_to_root<D: DigestItem, T: MapHasher<D>>(
+fn leads_to_root<D: DigestItem, H: MapViews<Input = [u8; 32], Output = D>>(
     alloc: Global,
-    hasher: &T,
+    hasher: &MapHasher<H>,
     root: &D,
     key: &[u8; 32],
     mut own: D,
     siblings: &[D],
 ) -> Result<bool, Error>
     requires { length siblings.now ≤ 256 }
-    ensures { Answers (verdict_from (T.hashes hasher.now) (D.numbers root.now) key.now
+    ensures { Answers (verdict_from (H.hashes hasher.now) (D.numbers root.now) key.now
         (map D.numbers siblings.now) (D.numbers own)) result }
 {
     let mut level = siblings.len();
@@ -39,17 +39,17 @@ fn leads_to_root<D: DigestItem, T: MapHasher<D>>(
 
 // Returns whether digests lead from the entry at a way's end to a root. Errors: those of the hashes, the lowest first;
 // `OutOfMemory`.
-fn leaf_leads_to<D: DigestItem, T: MapHasher<D>>(
+fn leaf_leads_to<D: DigestItem, H: MapViews<Input = [u8; 32], Output = D>>(
     alloc: Global,
-    hasher: &T,
+    hasher: &MapHasher<H>,
     root: &D,
     key: &[u8; 32],
     end_key: &[u8; 32],
-    end_value: &D,
+    end_value: &[u8; 32],
     siblings: &[D],
 ) -> Result<bool, Error>
-    ensures { Answers (way_verdict (T.hashes hasher.now) (D.numbers root.now) key.now
-        (map D.numbers siblings.now) (leaf_of end_key.now (D.numbers end_value.now))) result }
+    ensures { Answers (way_verdict (H.hashes hasher.now) (D.numbers root.now) key.now
+        (map D.numbers siblings.now) (leaf_of end_key.now end_value.now)) result }
 {
     if siblings.len() > KEY_BITS {
         return Ok(false);
@@ -62,36 +62,36 @@ fn leaf_leads_to<D: DigestItem, T: MapHasher<D>>(
 ///
 /// The answer is `false` for more digests than a key has bits. Errors: those of the hash of the entry; those of the hash of
 /// pairs, the lowest first; `OutOfMemory`.
-pub fn verify_value<D: DigestItem, T: MapHasher<D>>(
+pub fn verify_value<D: DigestItem, H: MapViews<Input = [u8; 32], Output = D>>(
     alloc: Global,
-    hasher: &T,
+    hasher: &MapHasher<H>,
     root: &D,
     key: &[u8; 32],
-    value: &D,
+    value: &[u8; 32],
     siblings: &[D],
 ) -> Result<bool, Error>
-    ensures answer { Answers (way_verdict (T.hashes hasher.now) (D.numbers root.now) key.now
-        (map D.numbers siblings.now) (leaf_of key.now (D.numbers value.now))) result }
+    ensures answer { Answers (way_verdict (H.hashes hasher.now) (D.numbers root.now) key.now
+        (map D.numbers siblings.now) (leaf_of key.now value.now)) result }
 
     // In each map with this root the key has this value, or at some level of the key's way the proof and the map's own tree
     // have two different nodes with one hash.
     ensures bound { IfOk result (λ accepted. accepted ≡ true
-        → BindsValue (T.hashes hasher.now) (D.numbers root.now) key.now (Some (D.numbers value.now))
-        (map D.numbers siblings.now) (leaf_of key.now (D.numbers value.now))) }
+        → BindsValue (H.hashes hasher.now) (D.numbers root.now) key.now (Some value.now)
+        (map D.numbers siblings.now) (leaf_of key.now value.now)) }
 {
     leaf_leads_to(alloc, hasher, root, key, key, value, siblings)
 }
 
 // Returns whether digests lead from a way's end at no entry to a root. Errors: those of the hash of pairs, the lowest first;
 // `OutOfMemory`.
-fn nothing_leads_to<D: DigestItem, T: MapHasher<D>>(
+fn nothing_leads_to<D: DigestItem, H: MapViews<Input = [u8; 32], Output = D>>(
     alloc: Global,
-    hasher: &T,
+    hasher: &MapHasher<H>,
     root: &D,
     key: &[u8; 32],
     siblings: &[D],
 ) -> Result<bool, Error>
-    ensures { Answers (way_verdict (T.hashes hasher.now) (D.numbers root.now) key.now
+    ensures { Answers (way_verdict (H.hashes hasher.now) (D.numbers root.now) key.now
         (map D.numbers siblings.now) Nothing) result }
 {
     if siblings.len() > KEY_BITS {
@@ -106,17 +106,17 @@ fn nothing_leads_to<D: DigestItem, T: MapHasher<D>>(
 ///
 /// The answer is `false` for more digests than a key has bits. Errors: those of the hash of pairs, the lowest first;
 /// `OutOfMemory`.
-pub fn verify_absent<D: DigestItem, T: MapHasher<D>>(
+pub fn verify_absent<D: DigestItem, H: MapViews<Input = [u8; 32], Output = D>>(
     alloc: Global,
-    hasher: &T,
+    hasher: &MapHasher<H>,
     root: &D,
     key: &[u8; 32],
     siblings: &[D],
 ) -> Result<bool, Error>
-    ensures answer { Answers (way_verdict (T.hashes hasher.now) (D.numbers root.now) key.now
+    ensures answer { Answers (way_verdict (H.hashes hasher.now) (D.numbers root.now) key.now
         (map D.numbers siblings.now) Nothing) result }
     ensures bound { IfOk result (λ accepted. accepted ≡ true
-        → BindsValue (T.hashes hasher.now) (D.numbers root.now) key.now None
+        → BindsValue (H.hashes hasher.now) (D.numbers root.now) key.now None
         (map D.numbers siblings.now) Nothing) }
 {
     nothing_leads_to(alloc, hasher, root, key, siblings)
@@ -127,20 +127,20 @@ pub fn verify_absent<D: DigestItem, T: MapHasher<D>>(
 ///
 /// The answer is `false` if the other key is the key itself, or for more digests than a key has bits. Errors: as of
 /// `verify_value`.
-pub fn verify_other<D: DigestItem, T: MapHasher<D>>(
+pub fn verify_other<D: DigestItem, H: MapViews<Input = [u8; 32], Output = D>>(
     alloc: Global,
-    hasher: &T,
+    hasher: &MapHasher<H>,
     root: &D,
     key: &[u8; 32],
     other_key: &[u8; 32],
-    other_value: &D,
+    other_value: &[u8; 32],
     siblings: &[D],
 ) -> Result<bool, Error>
-    ensures answer { Answers (other_verdict (T.hashes hasher.now) (D.numbers root.now) key.now
-        (map D.numbers siblings.now) other_key.now (D.numbers other_value.now)) result }
+    ensures answer { Answers (other_verdict (H.hashes hasher.now) (D.numbers root.now) key.now
+        (map D.numbers siblings.now) other_key.now other_value.now) result }
     ensures bound { IfOk result (λ accepted. accepted ≡ true
-        → BindsValue (T.hashes hasher.now) (D.numbers root.now) key.now None
-        (map D.numbers siblings.now) (leaf_of other_key.now (D.numbers other_value.now))) }
+        → BindsValue (H.hashes hasher.now) (D.numbers root.now) key.now None
+        (map D.numbers siblings.now) (leaf_of other_key.now other_value.now)) }
 {
     if are_same_keys(other_key, key) {
         Ok(false)

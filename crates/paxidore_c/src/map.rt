@@ -183,8 +183,8 @@ fn changes_of(
     alloc: Global,
     keys: &[[u8; 32]],
     values: &[[u8; 32]],
-) -> Result<Vec<Change<[u8; 32]>>, Error>
-    ensures { AnswersBy (λ changes. map (change_seen itself) changes.items)
+) -> Result<Vec<Change>, Error>
+    ensures { AnswersBy (λ changes. map change_seen changes.items)
         (Ok (changes_by keys.now values.now)) result }
 {
     let mut changes = Vec::new(alloc);

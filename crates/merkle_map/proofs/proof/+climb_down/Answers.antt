@@ -19,7 +19,7 @@ overflow_add-level-else-bit_of g t c =
 pub returns-in_ok-push-in-Fork : goal.returns-in_ok-push-in-Fork
 returns-in_ok-push-in-Fork g t c =
     let numbers = g.D.Numbered.numbers in
-    let h = g.T.MapHasher.hashes c.args.hasher.now in
+    let h = g.H.MapViews.hashes c.args.hasher.now in
     let proof = proof_at h (c.args.level + 1) c.args.key.now in
     answers_as _ _ _ c.climb_down.result
     (down-on h c.args.level c.args.key.now (ap (shape numbers) c.in-Fork.is) true
@@ -36,7 +36,7 @@ returns-in_ok-push-in-Fork g t c =
 pub returns-in_ok-push-in-Fork-2 : goal.returns-in_ok-push-in-Fork-2
 returns-in_ok-push-in-Fork-2 g t c =
     let numbers = g.D.Numbered.numbers in
-    let h = g.T.MapHasher.hashes c.args.hasher.now in
+    let h = g.H.MapViews.hashes c.args.hasher.now in
     let proof = proof_at h (c.args.level + 1) c.args.key.now in
     answers_as _ _ _ c.climb_down-else-bit_of.result
     (down-on h c.args.level c.args.key.now (ap (shape numbers) c.in-Fork.is) false

@@ -21,7 +21,7 @@ returns-in_ok-r-in-Fork-clause-pruned g t c =
     let l = rw (c.deref-in-Fork-4.ensures, c.deref-in-Fork-5.ensures.value) at c.in_ok-l-in-Fork.ensures.pruned in
     let r = rw (c.deref-in-Fork-9.ensures, c.deref-in-Fork-10.ensures.value) at c.in_ok-r-in-Fork.ensures.pruned in
     answers_as seen _ _ c.fork.result
-    (fork-made (g.T.MapHasher.hashes c.args.hasher.now) c.args.tops c.args.is_shown c.args.level c.args.keys.now
+    (fork-made (g.H.MapViews.hashes c.args.hasher.now) c.args.tops c.args.is_shown c.args.level c.args.keys.now
     c.in_ok-on_left-in-Fork.on_left.items c.in_ok-on_right-in-Fork.on_right.items (seen c.args.part.now)
     (seen sides.left) (seen sides.right) (seen c.in_ok-l-in-Fork.l) (seen c.in_ok-r-in-Fork.r)
     c.in_ok-is_left-in-Fork.is_left c.in_ok-is_right-in-Fork.is_right (sym c.is_empty.ensures ∙ c.if-is_empty.false)

@@ -19,7 +19,7 @@ returns-then-bit_of-clause-changed g t c =
     let seen = shape g.D.Numbered.numbers in
     answers_side c.args.level
     (ap seen c.in-Fork.is ∙ ap (λ s. Fork (seen s.left) (seen s.right)) (sym c.deref_mut.ensures.value))
-    (entry_seen g.D.Numbered.numbers c.args.own) true c.put_in.result (seen c.put_in.new.part)
+    (entry_seen c.args.own) true c.put_in.result (seen c.put_in.new.part)
     (sym c.bit_of.ensures ∙ c.if-bit_of.true) c.put_in.ensures.changed
 
 pub returns-else-bit_of-clause-changed : goal.returns-else-bit_of-clause-changed
@@ -27,7 +27,7 @@ returns-else-bit_of-clause-changed g t c =
     let seen = shape g.D.Numbered.numbers in
     answers_side c.args.level
     (ap seen c.in-Fork.is ∙ ap (λ s. Fork (seen s.left) (seen s.right)) (sym c.deref_mut.ensures.value))
-    (entry_seen g.D.Numbered.numbers c.args.own) false c.put_in-else-bit_of.result
+    (entry_seen c.args.own) false c.put_in-else-bit_of.result
     (seen c.put_in-else-bit_of.new.part) (sym c.bit_of.ensures ∙ c.if-bit_of.false)
     c.put_in-else-bit_of.ensures.changed
 

@@ -8,5 +8,5 @@ invariant-passes g l =
     let numbers = g.D.Numbered.numbers in
     record {
       same : shape numbers l.part ≡ shape numbers l.initial.part;
-      kept : IsKept numbers (g.T.MapHasher.hashes l.hasher) l.part;
+      kept : IsKept numbers (g.H.MapViews.hashes l.hasher) l.part;
     }

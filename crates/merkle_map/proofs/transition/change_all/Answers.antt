@@ -1,21 +1,27 @@
-use Rattle.std.proofs.Common.{arith}
+use Rattle.std.proofs.Common.{[], get_or, arith}
+use Rattle.std.proofs.lemmas.List.{get_or_default}
 use Rattle.ark_base.proofs.Refusals.{passed_on}
 use Rattle.merkle_map.specs.Transition.{change_seen}
+use Rattle.merkle_map.specs.declared.transition.Change.TheVariants.{Put}
 use Rattle.merkle_map.proofs.Changed.{made-next, made-error}
 use Rattle.merkle_map.proofs.transition.change_all.Goals as goal
 
 pub returns-in_err-change_tree-clause-changed : goal.returns-in_err-change_tree-clause-changed
 returns-in_err-change_tree-clause-changed g c =
+    let changes = c.args.changes.now in
+    let change = get_or changes c.changes.change-index (Put [] []) in
     passed_on _ _ c.from_residual.result c.in_err-change_tree.field-0.0 c.from_residual.ensures.1
     c.in_err-change_tree.ensures.changed
-    (λ why. made-error (g.T.MapHasher.hashes c.args.hasher.now)
-    (change_seen g.D.Numbered.numbers) c.args.changes.now c.args.tree.now c.changes.change-index
-    c.change-item.result c.changes.tree
-    (omega arith) c.change-item.is c.changes.invariant c.in_err-change_tree.field-0.0 why)
+    (λ why. made-error (g.H.MapViews.hashes c.args.hasher.now) change_seen changes c.args.tree.now
+    c.changes.change-index change c.changes.tree (omega arith)
+    (get_or_default changes c.changes.change-index (Put [] []) change (omega arith)) c.changes.invariant
+    c.in_err-change_tree.field-0.0 why)
 
 pub changes-preserved : goal.changes-preserved
 changes-preserved g c =
-    made-next (g.T.MapHasher.hashes c.args.hasher.now)
-    (change_seen g.D.Numbered.numbers) c.args.changes.now c.args.tree.now c.changes.change-index
-    c.change-item.result c.changes.tree (omega arith) c.change-item.is c.changes.invariant c.change_tree.new.tree
-    c.in_ok-change_tree.ensures.changed c.in_ok-change_tree.ensures.maps
+    let changes = c.args.changes.now in
+    let change = get_or changes c.changes.change-index (Put [] []) in
+    made-next (g.H.MapViews.hashes c.args.hasher.now) change_seen changes c.args.tree.now c.changes.change-index change
+    c.changes.tree (omega arith)
+    (get_or_default changes c.changes.change-index (Put [] []) change (omega arith)) c.changes.invariant
+    c.change_tree.new.tree c.in_ok-change_tree.ensures.changed c.in_ok-change_tree.ensures.maps

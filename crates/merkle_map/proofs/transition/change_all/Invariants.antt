@@ -5,5 +5,5 @@ use Rattle.merkle_map.proofs.transition.change_all.Given as goal
 
 abbrev pub invariant-changes : goal.invariant-changes
 invariant-changes g l =
-    IsMade (g.T.MapHasher.hashes l.hasher) l.initial.tree l.tree
-    (map (change_seen g.D.Numbered.numbers) (take l.change-index l.changes))
+    IsMade (g.H.MapViews.hashes l.hasher) l.initial.tree l.tree
+    (map change_seen (take l.change-index l.changes))

@@ -4,7 +4,7 @@ use Rattle.merkle_map.proofs.verify.leads_to_root.Given as goal
 
 abbrev pub invariant-levels : goal.invariant-levels
 invariant-levels g l =
-    let h = g.T.MapHasher.hashes l.hasher in
+    let h = g.H.MapViews.hashes l.hasher in
     let numbers = g.D.Numbered.numbers in
     record {
       inside : l.level ≤ length l.siblings;

@@ -5,7 +5,7 @@ use Rattle.merkle_map.proofs.verify.verify_absent.Goals as goal
 
 pub returns-clause-bound : goal.returns-clause-bound
 returns-clause-bound g c =
-    let h = g.T.MapHasher.hashes c.args.hasher.now in
+    let h = g.H.MapViews.hashes c.args.hasher.now in
     let root = g.D.Numbered.numbers c.args.root.now in
     let siblings = map g.D.Numbered.numbers c.args.siblings.now in
     answered _ _ (λ yes. verdict-binds h c.args.key.now root siblings Nothing refl yes) c.nothing_leads_to.ensures

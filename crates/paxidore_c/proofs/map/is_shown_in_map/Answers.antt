@@ -1,6 +1,8 @@
+use Rattle.std.proofs.Common.{◌≡◌, true, IfOk, Ok, subst}
 use Rattle.merkle_map.specs.Bytes.{itself}
 use Rattle.merkle_map.specs.KeyProof.{BindsBy, proof_seen}
 use Rattle.merkle_map.specs.Parts.{value_seen}
+use Rattle.merkle_map.specs.ProofBytes.{proof_of_bytes}
 use Rattle.merkle_map.specs.Sha256.{sha256_map}
 use Rattle.paxidore_c.specs.Maps.{key_proof_in}
 use Rattle.paxidore_c.proofs.MapLemmas.{shown-read}
@@ -8,6 +10,10 @@ use Rattle.paxidore_c.proofs.map.is_shown_in_map.Goals as goal
 
 pub returns-clause-bound : goal.returns-clause-bound
 returns-clause-bound c =
-    shown-read (key_proof_in c.args.proof.now) (proof_seen itself c.in_ok-proof.proof)
-    (BindsBy sha256_map c.args.root.now c.args.key.now (value_seen (λ v. v.now) c.args.value)) c.verify.result
-    c.in_ok-proof.ensures.answer c.verify.ensures.bound
+    let value = value_seen (λ v. v.now) c.args.value in
+    let proof = proof_seen itself c.in_ok-proof.proof in
+    shown-read (key_proof_in c.args.proof.now) proof (BindsBy sha256_map c.args.root.now c.args.key.now value)
+    c.verify.result
+    (subst (λ h. proof_of_bytes h.nothing c.args.proof.now ≡ Ok proof) c.new.ensures.hashes c.in_ok-proof.ensures.answer)
+    (subst (λ h. IfOk c.verify.result (λ accepted. accepted ≡ true
+    → BindsBy h c.args.root.now c.args.key.now value proof)) c.new.ensures.hashes c.verify.ensures.bound)

@@ -11,8 +11,8 @@ use Rattle.merkle_map.proofs.kept.KeptMap.insert.Goals as goal
 
 pub invariant_of-self : goal.invariant_of-self
 invariant_of-self g c =
-    let numbers = g.D.Numbered.numbers in
-    let own = entry_of c.args.key.now (numbers c.args.value) in
+    let numbers = g.H.Output.Numbered.numbers in
+    let own = entry_of c.args.key.now c.args.value in
     let old = shape numbers c.self.inside.top in
     let new = shape numbers c.put_in.new.part in
     record {
@@ -20,29 +20,30 @@ invariant_of-self g c =
           c.put_in.ensures.changed c.put_in.ensures.kept;
       whole = put-whole old new c.self.invariant.whole own c.put_in.result c.put_in.ensures.changed
           c.put_in.ensures.kept;
-      kept = c.put_in.ensures.digests (g.T.MapHasher.hashes c.self.inside.hasher) c.self.invariant.kept;
+      kept = c.put_in.ensures.digests (g.H.MapViews.hashes c.self.inside.hasher) c.self.invariant.kept;
     }
 
 -- The new tree is the store of the map with the value.
-stored : (g : _) (c : After-put_in g) → Stores (put c.args.key.now (g.D.Numbered.numbers c.args.value))
-    (shape g.D.Numbered.numbers c.self.inside.top) (shape g.D.Numbered.numbers c.put_in.new.part) c.put_in.result
+stored : (g : _) (c : After-put_in g) → Stores (put c.args.key.now c.args.value)
+    (shape g.H.Output.Numbered.numbers c.self.inside.top) (shape g.H.Output.Numbered.numbers c.put_in.new.part)
+    c.put_in.result
 stored g c =
-    let numbers = g.D.Numbered.numbers in
-    let own = entry_of c.args.key.now (numbers c.args.value) in
+    let numbers = g.H.Output.Numbered.numbers in
+    let own = entry_of c.args.key.now c.args.value in
     let old = shape numbers c.self.inside.top in
     let new = shape numbers c.put_in.new.part in
     let stands = c.self.invariant.stands in
-    stores plain (put c.args.key.now (numbers c.args.value)) old new stands
+    stores plain (put c.args.key.now c.args.value) old new stands
     (put-stands own (c.told-key, c.fits-key) old new
     stands c.put_in.result c.put_in.ensures.changed c.put_in.ensures.kept) (with_value 0 own old) c.put_in.result
     (put-can own old) c.put_in.ensures.changed
-    (under plain (put c.args.key.now (numbers c.args.value)) old new c.put_in.result
+    (under plain (put c.args.key.now c.args.value) old new c.put_in.result
     (put-follows own (c.told-key, c.fits-key) old new stands c.put_in.result c.put_in.ensures.changed))
 
 pub returns-clause-put : goal.returns-clause-put
 returns-clause-put g c =
-    let numbers = g.D.Numbered.numbers in
-    let change = put c.args.key.now (numbers c.args.value) in
+    let numbers = g.H.Output.Numbered.numbers in
+    let change = put c.args.key.now c.args.value in
     let new = shape numbers c.put_in.new.part in
     subst (λ map. OnOk c.put_in.result (HaveSame (entries_of new) (change map.entries))) c.self.view_is
     (same-of (change (entries_of (shape numbers c.self.inside.top))) new c.put_in.result

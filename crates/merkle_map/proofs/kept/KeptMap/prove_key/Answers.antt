@@ -14,8 +14,8 @@ use Rattle.merkle_map.proofs.kept.KeptMap.prove_key.Goals as goal
 
 pub returns : goal.returns
 returns g c =
-    let numbers = g.D.Numbered.numbers in
-    let hashes = g.T.MapHasher.hashes in
+    let numbers = g.H.Output.Numbered.numbers in
+    let hashes = g.H.MapViews.hashes in
     let h = hashes c.self.inside.hasher in
     let key = c.args.key.now in
     let own = shape numbers c.self.inside.top in

@@ -8,7 +8,7 @@ use Rattle.merkle_map.proofs.kept.KeptMap.remove.Goals as goal
 
 pub invariant_of-self : goal.invariant_of-self
 invariant_of-self g c =
-    let numbers = g.D.Numbered.numbers in
+    let numbers = g.H.Output.Numbered.numbers in
     let key = c.args.key.now in
     let old = shape numbers c.self.inside.top in
     let new = shape numbers c.remove_shown.new.part in
@@ -16,12 +16,12 @@ invariant_of-self g c =
     record {
       stands = without-stands [] key old new returned is tt c.self.invariant.stands;
       whole = now-whole old new c.self.invariant.whole key is;
-      kept = c.remove_shown.ensures.digests (g.T.MapHasher.hashes c.self.inside.hasher) c.self.invariant.kept;
+      kept = c.remove_shown.ensures.digests (g.H.MapViews.hashes c.self.inside.hasher) c.self.invariant.kept;
     }
 
 pub returns-clause-removed : goal.returns-clause-removed
 returns-clause-removed g c =
-    let numbers = g.D.Numbered.numbers in
+    let numbers = g.H.Output.Numbered.numbers in
     let key = c.args.key.now in
     let old = shape numbers c.self.inside.top in
     let new = shape numbers c.remove_shown.new.part in

@@ -13,26 +13,26 @@ use Rattle.merkle_map.proofs.proof.KeyProof+array+32+u8.from_bytes.Goals as goal
 
 pub returns-in_err-nothing-clause-reads : goal.returns-in_err-nothing-clause-reads
 returns-in_err-nothing-clause-reads g c =
-    reads-proof-back (g.T.MapHasher.hashes c.args.hasher.now).nothing c.args.bytes.now
+    reads-proof-back (g.H.MapViews.hashes c.args.hasher.now).nothing c.args.bytes.now
 
 pub returns-in_err-end-clause-reads : goal.returns-in_err-end-clause-reads
 returns-in_err-end-clause-reads g c =
-    reads-proof-back (g.T.MapHasher.hashes c.args.hasher.now).nothing c.args.bytes.now
+    reads-proof-back (g.H.MapViews.hashes c.args.hasher.now).nothing c.args.bytes.now
 
 pub returns-in_err-siblings-clause-reads : goal.returns-in_err-siblings-clause-reads
 returns-in_err-siblings-clause-reads g c =
-    reads-proof-back (g.T.MapHasher.hashes c.args.hasher.now).nothing c.args.bytes.now
+    reads-proof-back (g.H.MapViews.hashes c.args.hasher.now).nothing c.args.bytes.now
 
 pub returns-clause-reads : goal.returns-clause-reads
 returns-clause-reads g c =
-    reads-proof-back (g.T.MapHasher.hashes c.args.hasher.now).nothing c.args.bytes.now
+    reads-proof-back (g.H.MapViews.hashes c.args.hasher.now).nothing c.args.bytes.now
 
 pub returns-clause-only : goal.returns-clause-only
 returns-clause-only g c =
-    let own = (g.T.MapHasher.hashes c.args.hasher.now).nothing in
+    let own = (g.H.MapViews.hashes c.args.hasher.now).nothing in
     let nothing = c.in_ok-nothing.nothing in
     let bytes = c.args.bytes.now in
-    let end = end_seen itself c.in_ok-end.end in
+    let end = end_seen c.in_ok-end.end in
     let items = c.in_ok-siblings.siblings.items in
     let small : IsBytes bytes = λ i. omega (arith, c.type_inv.bytes i) in
     proof-only own bytes (proof_seen itself (record { end = c.in_ok-end.end; siblings = c.in_ok-siblings.siblings }))

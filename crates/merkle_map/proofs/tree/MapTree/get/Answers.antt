@@ -5,5 +5,5 @@ use Rattle.merkle_map.proofs.tree.MapTree.get.Goals as goal
 
 pub returns-clause-maps : goal.returns-clause-maps
 returns-clause-maps g c =
-    found-has (λ value. g.D.Numbered.numbers value.now) c.args.self.now c.args.key.now c.find_top.result
+    found-has (λ value. value.now) c.args.self.now c.args.key.now c.find_top.result
     (ap (known_at 0 c.args.key.now) (sym c.self.view_is) ∙ c.find_top.ensures)

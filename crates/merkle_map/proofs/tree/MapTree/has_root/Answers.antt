@@ -8,5 +8,5 @@ returns-clause-bound g c = λ yes entries tree.
     let numbers = g.D.Numbered.numbers in
     let same = (bytes_eq-Decides (numbers c.in_ok-digest.digest) (numbers c.args.root.now)).0
     (sym c.are_same_digests.ensures ∙ yes) in
-    shows-or_collides (g.T.MapHasher.hashes c.args.hasher.now) 0 c.args.self.now entries (numbers c.args.root.now)
+    shows-or_collides (g.H.MapViews.hashes c.args.hasher.now) 0 c.args.self.now entries (numbers c.args.root.now)
     (c.in_ok-digest.ensures.digest ∙ ap Ok same) tree

@@ -5,12 +5,12 @@ use Rattle.merkle_map.proofs.OwnProof.{accepts, behind_none}
 use Rattle.merkle_map.proofs.tree.MapTree.prove_key.Goals as goal
 
 pub climb_top-requires-clause-kept : goal.climb_top-requires-clause-kept
-climb_top-requires-clause-kept g c = c.self.invariant.1 (g.T.MapHasher.hashes c.args.hasher.now)
+climb_top-requires-clause-kept g c = c.self.invariant.1 (g.H.MapViews.hashes c.args.hasher.now)
 
 pub returns-clause-accepted : goal.returns-clause-accepted
 returns-clause-accepted g c =
     let numbers = g.D.Numbered.numbers in
-    let h = g.T.MapHasher.hashes c.args.hasher.now in
+    let h = g.H.MapViews.hashes c.args.hasher.now in
     let key = c.args.key.now in
     let old = top_shape numbers c.self.inside.top in
     subst (λ s. IsKeyProofAccepted h key s (proof_seen numbers

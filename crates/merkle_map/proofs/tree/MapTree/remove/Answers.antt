@@ -11,7 +11,7 @@ use Rattle.merkle_map.proofs.tree.MapTree.remove.Goals as goal
 pub invariant_of-self : goal.invariant_of-self
 invariant_of-self g c =
     let numbers = g.D.Numbered.numbers in
-    let h = g.T.MapHasher.hashes c.args.hasher.now in (
+    let h = g.H.MapViews.hashes c.args.hasher.now in (
       without-stands h.nothing c.args.key.now (top_shape numbers c.self.inside.top)
           (top_shape numbers c.remove_top.new.top) c.remove_top.result
           c.remove_top.ensures.changed c.remove_top.ensures.kept c.self.invariant.0,
@@ -21,7 +21,7 @@ invariant_of-self g c =
 pub returns-clause-maps : goal.returns-clause-maps
 returns-clause-maps g c =
     let numbers = g.D.Numbered.numbers in
-    let h = g.T.MapHasher.hashes c.args.hasher.now in
+    let h = g.H.MapViews.hashes c.args.hasher.now in
     let key = c.args.key.now in
     let new = top_shape numbers c.remove_top.new.top in
     subst (λ s. OnOk c.remove_top.result (FollowsBy h (without key) s new)) c.self.view_is
@@ -30,7 +30,7 @@ returns-clause-maps g c =
 pub returns-clause-store : goal.returns-clause-store
 returns-clause-store g c =
     let numbers = g.D.Numbered.numbers in
-    let h = g.T.MapHasher.hashes c.args.hasher.now in
+    let h = g.H.MapViews.hashes c.args.hasher.now in
     let key = c.args.key.now in
     let old = top_shape numbers c.self.inside.top in
     let new = top_shape numbers c.remove_top.new.top in

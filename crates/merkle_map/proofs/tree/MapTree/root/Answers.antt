@@ -6,14 +6,14 @@ use Rattle.merkle_map.proofs.Shows.{shows-digest}
 use Rattle.merkle_map.proofs.tree.MapTree.root.Goals as goal
 
 pub digest_of_top-requires : goal.digest_of_top-requires
-digest_of_top-requires g c = c.self.invariant.1 (g.T.MapHasher.hashes c.args.hasher.now)
+digest_of_top-requires g c = c.self.invariant.1 (g.H.MapViews.hashes c.args.hasher.now)
 
 pub returns-clause-maps : goal.returns-clause-maps
 returns-clause-maps g c =
-    λ entries shown. shows-digest (g.T.MapHasher.hashes c.args.hasher.now) 0 c.args.self.now entries shown
+    λ entries shown. shows-digest (g.H.MapViews.hashes c.args.hasher.now) 0 c.args.self.now entries shown
 
 pub returns-clause-store : goal.returns-clause-store
 returns-clause-store g c =
-    let h = g.T.MapHasher.hashes c.args.hasher.now in
+    let h = g.H.MapViews.hashes c.args.hasher.now in
     subst (IsRootOf h) c.self.view_is (root-of-store h (top_shape g.D.Numbered.numbers c.self.inside.top)
     c.self.invariant.0)
