@@ -255,11 +255,11 @@ typedef struct paxidore_log_steps {
     size_t bytes_room, bytes_len;
 } paxidore_log_steps;
 
-/* How many bytes are enough for what is to be written for so many entries, 0 for a new log. It allocates nothing. */
+/* How many bytes are enough for what is to be written to make a file, and for so many entries. It allocates nothing. */
 size_t paxidore_log_file_room(size_t count);
 
 /* What is to be done before a file is appended to, each time that it is opened: one of no bytes, or of a part of a new
- * log's head, gets that head (sync its folder too), any other one its own head again. E_HEAD, E_ROOM for `steps`. */
+ * log's head, gets that head (sync its folder too), one that lost a sector that, else its own head. E_HEAD, E_ROOM. */
 PAXIDORE_ANSWERS PAXIDORE_NOT_NULL((1, 2)) int32_t paxidore_log_file_make(
     paxidore_log_steps *steps, paxidore_log_pieces *pieces);
 

@@ -7,7 +7,7 @@
 #include <unistd.h>
 
 static paxidore_piece read_places[PAXIDORE_LOG_PIECES_MAX], written_places[PAXIDORE_LOG_STEPS_MAX];
-static uint8_t read_bytes[1 << 15], written_bytes[1 << 12];
+static uint8_t read_bytes[1 << 15], written_bytes[1 << 14];
 static paxidore_log_pieces pieces = {read_places, PAXIDORE_LOG_PIECES_MAX, 0, read_bytes, 0, 0};
 static paxidore_log_steps steps = {written_places, PAXIDORE_LOG_STEPS_MAX, 0, written_bytes, sizeof written_bytes, 0};
 static size_t have;

@@ -18,7 +18,7 @@ static void check(int holds, const char *what, int line) {
 }
 #define CHECK(holds) check((holds) != 0, #holds, __LINE__)
 
-enum { MOST = 70, ROOM = 1 << 14, SECTOR = 4096 };
+enum { MOST = 70, ROOM = 1 << 15, SECTOR = 4096, HEAD = 96 };
 
 /* A file. */
 struct file {
@@ -111,6 +111,43 @@ static void carry_out(struct file *file, size_t steps, size_t part) {
     }
 }
 
+static const char sector_title[] = "paxidore log of SHA-256, sectors", dense_title[] = "paxidore log, digests of SHA-256";
+
+/* The file with sectors of a log's file. */
+static void lay_apart(struct file *to, const struct file *from) {
+    memset(to, 0, sizeof *to);
+    for (size_t slot = 0; slot < 2; slot++) {
+        memcpy(to->bytes + SECTOR * slot, sector_title, 32);
+        memcpy(to->bytes + SECTOR * slot + 32, from->bytes + 32 + 32 * slot, 32);
+    }
+    memcpy(to->bytes + 2 * SECTOR, from->bytes + HEAD, from->len - HEAD);
+    to->len = 2 * SECTOR + from->len - HEAD;
+}
+
+/* The older file, whose slots lie in one sector, of a file with two. */
+static void lay_dense(struct file *to, const struct file *from) {
+    memset(to, 0, sizeof *to);
+    memcpy(to->bytes, dense_title, 32);
+    for (size_t slot = 0; slot < 2; slot++)
+        memcpy(to->bytes + 32 + 32 * slot, from->bytes + SECTOR * slot + 32, 32);
+    memcpy(to->bytes + HEAD, from->bytes + 2 * SECTOR, from->len - 2 * SECTOR);
+    to->len = HEAD + from->len - 2 * SECTOR;
+}
+
+static int is_same(const struct file *file, const struct file *other) {
+    return file->len == other->len && memcmp(file->bytes, other->bytes, file->len) == 0;
+}
+
+/* Makes a file ready, and answers what that does: so many bytes are written in so many steps. */
+static int is_made(struct file *file, size_t steps, size_t bytes) {
+    int32_t answer;
+    ASKED(answer, file, paxidore_log_file_make(PLAN, PIECES));
+    if (answer != PAXIDORE_OK || plan.steps.places_len != steps || plan.steps.bytes_len != bytes || bytes > paxidore_log_file_room(0))
+        return 0;
+    carry_out(file, plan.steps.places_len, 0);
+    return 1;
+}
+
 /* A log that is kept in memory. */
 static uint8_t kept[32 * 2 * MOST];
 static size_t kept_len, kept_size;
@@ -159,21 +196,44 @@ static void appends(void) {
     int32_t answer;
     for (size_t n = 0; n < MOST; n++)
         entries[n] = (uint8_t)n, lengths[n] = 1;
-    ASKED(answer, &file, paxidore_log_file_make(PLAN, PIECES));
-    CHECK(answer == PAXIDORE_OK && plan.steps.bytes_len > 0 && plan.steps.bytes_len <= paxidore_log_file_room(0));
-    const size_t head = plan.steps.bytes_len, first = plan.places[0].len;
-    /* whatever part of the head is written, it is made anew, and a whole one is written again */
-    for (size_t part = 0; part <= head; part++) {
-        struct plan whole = plan;
-        memset(&torn, 0, sizeof torn);
-        carry_out(&torn, part < first ? 0 : 1, part < first ? part : part - first);
-        ASKED(answer, &torn, paxidore_log_file_make(PLAN, PIECES));
-        CHECK(answer == PAXIDORE_OK && plan.steps.bytes_len == head && plan.steps.places_len == 2);
-        carry_out(&torn, plan.steps.places_len, 0);
-        CHECK(is_log_of(&torn, 0, 1));
-        plan = whole;
+    const size_t head = HEAD;
+    static struct file sectors;
+    CHECK(is_made(&sectors, 1, 2 * SECTOR) && sectors.len == 2 * SECTOR && is_log_of(&sectors, 0, 1));
+    /* whatever part of the two sectors is written, from either end, they are completed; whole ones are written again */
+    for (size_t part = 0; part <= 2 * SECTOR; part += part % SECTOR < 70 ? 1 : 101) {
+        torn = sectors;
+        memset(torn.bytes + part, 0, 2 * SECTOR - part);
+        CHECK(is_made(&torn, 1, 2 * SECTOR) && is_same(&torn, &sectors));
+        memset(torn.bytes + part, 0, 2 * SECTOR - part);
+        torn.len = part;
+        CHECK(is_made(&torn, 1, 2 * SECTOR) && is_same(&torn, &sectors));
+        memset(torn.bytes, 0, part);
+        CHECK(is_made(&torn, 1, 2 * SECTOR) && is_same(&torn, &sectors));
     }
-    carry_out(&file, plan.steps.places_len, 0);
+    /* a part of an older head is completed, once it is no part of the two sectors; a whole one is written again */
+    lay_dense(&file, &sectors);
+    for (size_t part = 0; part <= head; part++)
+        for (size_t len = part; len <= head; len += head - part ? head - part : 1) {
+            torn = file;
+            memset(torn.bytes + part, 0, head - part);
+            torn.len = len;
+            if (part <= strlen("paxidore log"))
+                CHECK(is_made(&torn, 1, 2 * SECTOR) && is_same(&torn, &sectors));
+            else
+                CHECK(is_made(&torn, 2, head) && is_same(&torn, &file));
+        }
+    /* other files stay */
+    for (size_t len = 1; len <= 3 * SECTOR; len += SECTOR - 1) {
+        struct file *other = &torn;
+        memset(other, 0, sizeof *other);
+        other->len = len;
+        other->bytes[len - 1] = 'x';
+        sectors = *other;
+        ASKED(answer, other, paxidore_log_file_make(PLAN, PIECES));
+        CHECK(answer == PAXIDORE_OK);
+        carry_out(other, plan.steps.places_len, 0);
+        CHECK(is_same(other, &sectors));
+    }
     for (size_t n = 0; n < sizeof counts / sizeof *counts; n++) {
         size_t count = counts[n];
         ASKED(answer, &file, paxidore_log_file_append(PLAN, &grown, PIECES, entries + size, count, lengths, count));
@@ -265,25 +325,30 @@ static void appends(void) {
     CHECK(answer == PAXIDORE_E_HEAD && paxidore_log_file_check(torn.bytes, torn.len) == answer);
 }
 
-/* The file with sectors of a log's file. */
-static void lay_apart(struct file *to, const struct file *from) {
-    static const char title[] = "paxidore log of SHA-256, sectors";
-    memset(to, 0, sizeof *to);
-    for (size_t slot = 0; slot < 2; slot++) {
-        memcpy(to->bytes + SECTOR * slot, title, 32);
-        memcpy(to->bytes + SECTOR * slot + 32, from->bytes + 32 + 32 * slot, 32);
-    }
-    memcpy(to->bytes + 2 * SECTOR, from->bytes + 96, from->len - 96);
-    to->len = 2 * SECTOR + from->len - 96;
-}
-
-static int is_same(const struct file *file, const struct file *other) {
-    return file->len == other->len && memcmp(file->bytes, other->bytes, file->len) == 0;
+/* A file of which a sector is lost is made as the whole one, in so many steps and bytes. Wherever they stop it is that of the log. */
+static int is_healed(struct file *torn, const struct file *whole, size_t size, size_t steps, size_t bytes) {
+    static struct file stopped;
+    static struct plan all;
+    int32_t answer;
+    ASKED(answer, torn, paxidore_log_file_make(PLAN, PIECES));
+    if (answer != PAXIDORE_OK || plan.steps.places_len != steps || plan.steps.bytes_len != bytes || bytes > paxidore_log_file_room(0))
+        return 0;
+    all = plan;
+    for (size_t step = 0; step < steps; step++)
+        for (size_t part = 0; part <= SECTOR; part += part < 70 ? 1 : 671) {
+            stopped = *torn, plan = all;
+            carry_out(&stopped, step, part);
+            if (!is_log_of(&stopped, size, 0))
+                return 0;
+        }
+    plan = all;
+    carry_out(torn, plan.steps.places_len, 0);
+    return is_same(torn, whole) && is_log_of(torn, size, 0);
 }
 
 /* A log whose slots lie in two sectors, beside the same one whose slots lie in one. */
 static void lies_apart(void) {
-    static struct file file, dense, wanted, torn;
+    static struct file file, dense, older, wanted, torn;
     static const size_t counts[] = {1, 2, 5, 1, 8, 13};
     static uint8_t entries[MOST];
     static size_t lengths[MOST];
@@ -292,11 +357,9 @@ static void lies_apart(void) {
     kept_len = kept_size = 0;
     for (size_t n = 0; n < MOST; n++)
         entries[n] = (uint8_t)n, lengths[n] = 1;
-    ASKED(answer, &dense, paxidore_log_file_make(PLAN, PIECES));
-    CHECK(answer == PAXIDORE_OK);
-    carry_out(&dense, plan.steps.places_len, 0);
-    lay_apart(&file, &dense);
-    CHECK(is_log_of(&file, 0, 1));
+    CHECK(is_made(&file, 1, 2 * SECTOR));
+    lay_dense(&dense, &file);
+    CHECK(is_log_of(&file, 0, 1) && is_log_of(&dense, 0, 1));
     for (size_t n = 0; n < sizeof counts / sizeof *counts; n++) {
         /* the head and both sectors are asked for at once */
         begin(&file);
@@ -304,20 +367,24 @@ static void lies_apart(void) {
         CHECK(read_so_far.places[0].at == 0 && read_so_far.places[0].len == 96);
         CHECK(read_so_far.places[1].at == SECTOR && read_so_far.places[1].len == 64);
         /* it is opened, and stays as it is */
-        wanted = file;
-        ASKED(answer, &file, paxidore_log_file_make(PLAN, PIECES));
-        CHECK(answer == PAXIDORE_OK && plan.steps.bytes_len <= paxidore_log_file_room(0));
-        carry_out(&file, plan.steps.places_len, 0);
+        older = wanted = file;
+        CHECK(size ? is_made(&file, 2, HEAD) : is_made(&file, 1, 2 * SECTOR));
         CHECK(is_same(&file, &wanted));
-        /* its first sector is lost: it is read, and not written */
+        /* its first sector is lost: it is read, and nothing is appended until it is made */
         torn = file;
         memset(torn.bytes, n % 2 ? 0xa5 : 0, SECTOR);
         CHECK(is_log_of(&torn, size, 1));
         grown = 99;
         ASKED(answer, &torn, paxidore_log_file_append(PLAN, &grown, PIECES, entries + size, counts[n], lengths, counts[n]));
         CHECK(answer == PAXIDORE_E_HEAD && grown == 99 && plan.steps.places_len == 99 && plan.steps.bytes_len == 99);
-        ASKED(answer, &torn, paxidore_log_file_make(PLAN, PIECES));
-        CHECK(answer == PAXIDORE_E_HEAD && plan.steps.places_len == 99 && plan.steps.bytes_len == 99);
+        if (size)
+            CHECK(is_healed(&torn, &file, size, 2, 2 * SECTOR));
+        else /* it is a part of the sectors of a new log */
+            CHECK(is_made(&torn, 1, 2 * SECTOR) && is_same(&torn, &file));
+        /* its second one */
+        torn = file;
+        memset(torn.bytes + SECTOR, n % 2 ? 0 : 0xa5, SECTOR);
+        CHECK(is_healed(&torn, &file, size, 2, SECTOR + 64));
         /* an append, whose steps stop somewhere */
         count = counts[n];
         ASKED(answer, &dense, paxidore_log_file_append(PLAN, &grown, PIECES, entries + size, count, lengths, count));
@@ -338,7 +405,13 @@ static void lies_apart(void) {
         carry_out(&file, plan.steps.places_len, 0);
         lay_apart(&wanted, &dense);
         CHECK(is_same(&file, &wanted));
-        /* its second sector is lost: it is read, and its slot is written again */
+        /* one of its slots is the older one */
+        for (size_t slot = 0; slot < 2; slot++) {
+            torn = file;
+            memcpy(torn.bytes + SECTOR * slot + 32, older.bytes + SECTOR * slot + 32, 32);
+            CHECK(slot ? is_healed(&torn, &file, grown, 2, SECTOR + 64) : is_healed(&torn, &file, grown, 2, 2 * SECTOR));
+        }
+        /* its second sector is lost: it is read, and goes on */
         torn = file;
         memset(torn.bytes + SECTOR, 0, SECTOR);
         CHECK(is_log_of(&torn, grown, 1));
@@ -362,6 +435,19 @@ static void lies_apart(void) {
     torn.bytes[32] ^= 1, torn.bytes[SECTOR + 32] ^= 1;
     ASKED(answer, &torn, paxidore_log_file_size(&count, PIECES));
     CHECK(answer == PAXIDORE_E_HEAD && paxidore_log_file_check(torn.bytes, torn.len) == answer);
+    /* nothing is healed: what is made is its own head */
+    wanted = torn;
+    CHECK(is_made(&torn, 2, HEAD) && is_same(&torn, &wanted));
+    memset(torn.bytes, 0, SECTOR);
+    wanted = torn;
+    ASKED(answer, &torn, paxidore_log_file_make(PLAN, PIECES));
+    CHECK(answer == PAXIDORE_E_HEAD && plan.steps.places_len == 99 && plan.steps.bytes_len == 99);
+    /* one slot is lost, and the peak is damaged that the other one states */
+    torn = file;
+    torn.bytes[32] ^= 1;
+    torn.bytes[file.len - 1] ^= 1;
+    wanted = torn;
+    CHECK(is_made(&torn, 2, HEAD) && is_same(&torn, &wanted));
     /* a file that is shorter */
     for (size_t len = 0; len < file.len; len++) {
         torn = file;

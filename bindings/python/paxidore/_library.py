@@ -109,7 +109,7 @@ class ShortLog(Refused, ValueError):
 
 
 class DamagedHead(Refused, ValueError):
-    """The file has the title of a log's, and neither of its two slots is whole; or its first sector is lost, and it is to be written."""
+    """The file has the title of a log's, and neither of its two slots is whole; or its first sector was lost while the log was open."""
 
     code = -13
 

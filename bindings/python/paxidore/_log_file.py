@@ -1,5 +1,6 @@
 """Logs in files: the library says what is to be read of a file and what is to be written, and this module does that."""
 import ctypes
+import errno
 import fcntl
 import io
 import os
@@ -8,11 +9,15 @@ import time
 import weakref
 from typing import Any, Callable, List, Optional, Tuple
 
-from ._library import MORE, NoLog, _bytes, _call, _Flat, _leaves, _refusal, _size, _sizes
+from ._library import MORE, NoLog, ShortLog, _bytes, _call, _Flat, _leaves, _refusal, _size, _sizes
 
 # how many pieces and steps are enough, as the header has them
 _PIECES = 384
 _STEPS = 8
+
+# the two sectors of a file's slots, and how each begins
+_SECTOR = 4096
+_SECTOR_TITLE = b"paxidore log of SHA-256, sectors"
 
 
 class _Piece(ctypes.Structure):
@@ -98,14 +103,24 @@ class _File:
 
     def asking(self, call: Callable[..., Any]) -> int:
         # the answer of a call, for which the pieces of the file are read that it asks for
+        length = os.fstat(self.number()).st_size
+        while True:
+            answer = self.asked(call, length)
+            # a keeper may have appended since: a head that was read later says more digests than the file had
+            before, length = length, os.fstat(self.number()).st_size
+            if answer != ShortLog.code or length <= before:
+                return answer
+
+    def asked(self, call: Callable[..., Any], length: int) -> int:
+        # the same, of a file of this length
         file, places = self.number(), self.places
-        length, data, read = os.fstat(file).st_size, b"", 0
+        data, read = b"", 0
         while True:
             pieces = _Pieces(places, _PIECES, read, data, len(data), length)
             answer: int = call(pieces)
             if answer != MORE:
                 return answer
-            data += b"".join([_read(file, piece.len, piece.at) for piece in places[read : pieces.places_len]])
+            data += b"".join([_read_piece(file, piece.len, piece.at) for piece in places[read : pieces.places_len]])
             read = pieces.places_len
 
     def steps_of(self, call: Callable[..., Any], room: int) -> "List[Tuple[int, memoryview]]":
@@ -197,7 +212,7 @@ class _File:
 
     def check(self) -> int:
         file = self.number()
-        whole = _read(file, os.fstat(file).st_size, 0)
+        whole = _read_piece(file, os.fstat(file).st_size, 0)
         answer: int = _file_check(whole, len(whole))
         return answer
 
@@ -284,9 +299,35 @@ def _read(file: int, count: int, at: int) -> bytes:
     while len(part) < count:
         more = os.pread(file, count - len(part), at + len(part))
         if not more:
-            raise ValueError("the file of the log ends early: it was made shorter")
+            raise ShortLog("the file of the log ends early: it was made shorter")
         part += more
     return part
+
+
+def _read_piece(file: int, count: int, at: int) -> bytes:
+    # the bytes of a piece, of which a sector that cannot be read is lost
+    try:
+        return _read(file, count, at)
+    except OSError as error:
+        if error.errno != errno.EIO or at >= 2 * _SECTOR:
+            raise
+    end, parts = at + count, []
+    while at < end:
+        sector = at // _SECTOR * _SECTOR
+        upto = min(end, sector + _SECTOR) if sector < 2 * _SECTOR else end
+        parts.append(_read_sector(file, upto - at, at, _SECTOR - sector))
+        at = upto
+    return b"".join(parts)
+
+
+def _read_sector(file: int, count: int, at: int, other: int) -> bytes:
+    # zeros stand for bytes of one of the two sectors that cannot be read, where the other one is there
+    try:
+        return _read(file, count, at)
+    except OSError as error:
+        if error.errno != errno.EIO or other < 0 or _read(file, len(_SECTOR_TITLE), other) != _SECTOR_TITLE:
+            raise
+        return bytes(count)
 
 
 def _write(file: int, view: "memoryview", at: int) -> None:

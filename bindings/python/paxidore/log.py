@@ -121,13 +121,13 @@ class Log:
     def open(cls, path: "os.PathLike[str] | str", *, read_only: bool = False, wait: float = 0) -> "Log":
         """The log that a file keeps; a new one where there is no such file.
 
-        The log has the entries of the last append that returned, or also those of the one that was under way. Opening changes no
-        byte of a file that has a log: it writes the head again as it is, and syncs it. Where the file is open already, it waits
+        The log has the entries of the last append that returned, or also those of the one that was under way. Opening it to append
+        writes a sector again that was lost, or else the head as it is, and syncs it. Where the file is open already, it waits
         for at most so many seconds. A log that is open for reading only needs no lock, and sees what its keeper appends; it has
         to be there.
 
         Raises ``NoLog``, ``DamagedHead`` and ``ShortLog``, which are ``ValueError``, where the file is no log's, its head is damaged
-        or it ends early; ``BlockingIOError`` where it is still open, ``OSError``.
+        or it ends early, as it does once it was made shorter; ``BlockingIOError`` where it is still open, ``OSError``.
         """
         log = cls.__new__(cls)
         log._kept, log._turn = None, Turn()

@@ -15,6 +15,21 @@ def sha(data):
     return hashlib.sha256(data).digest()
 
 
+TITLE = b"paxidore log, digests of SHA-256"
+SECTOR_TITLE = b"paxidore log of SHA-256, sectors"
+
+
+def apart(data):
+    """The file with sectors of an older log's file."""
+    first, second = SECTOR_TITLE + data[32:64], SECTOR_TITLE + data[64:96]
+    return first.ljust(4096, b"\0") + second.ljust(4096, b"\0") + data[96:]
+
+
+def dense(data):
+    """The older file, whose slots lie in one sector, of a log's file with two."""
+    return TITLE + data[32:64] + data[4128:4160] + data[8192:]
+
+
 def largest_below(count):
     power = 1
     while 2 * power < count:

@@ -7,7 +7,7 @@ import unittest
 
 import paxidore
 from paxidore import Log
-from log_model import all_roots, drawn, DRAWS, end_within, entry_digests, mth
+from log_model import all_roots, dense, drawn, DRAWS, end_within, entry_digests, mth
 
 
 class Crashes(unittest.TestCase):
@@ -124,11 +124,10 @@ class Crashes(unittest.TestCase):
 
     def test_each_bit_that_is_flipped(self):
         """In the head it is told or harmless. In a digest it is found, or the root is not the one that was published."""
-        with Log.open(self.path):
-            pass
-        head = os.path.getsize(self.path)
+        head = 96
         for first, more in ((1, 0), (1, 1), (2, 1), (3, 4), (5, 8)):
-            os.unlink(self.path)
+            if os.path.exists(self.path):
+                os.unlink(self.path)
             entries = drawn(first + more)
             size, told = first + more, 0
             with Log.open(self.path) as log:
@@ -136,7 +135,19 @@ class Crashes(unittest.TestCase):
                     log.append(part)
                 root = log.root()
             with open(self.path, "rb") as file:
-                whole = file.read()
+                new = file.read()
+            # in a sector it is written again, but for the zeros behind the slot
+            for place in (*range(64), *range(4096, 4160), 64, 4095, 4160, 8191):
+                flipped = bytearray(new)
+                flipped[place] ^= 1 << DRAWS.randrange(8)
+                with open(self.path, "wb") as file:
+                    file.write(flipped)
+                with Log.open(self.path) as log:
+                    self.assertEqual((len(log), log.root(), log.check()), (size, root, True))
+                with open(self.path, "rb") as file:
+                    self.assertEqual(file.read(), new if place % 4096 < 64 else flipped)
+            # the older file
+            whole = dense(new)
             for bit in range(8 * len(whole)):
                 flipped = bytearray(whole)
                 flipped[bit // 8] ^= 1 << bit % 8

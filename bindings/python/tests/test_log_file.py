@@ -1,4 +1,5 @@
 """Logs in files: their openers, locks, heads and processes."""
+import errno
 import fcntl
 import io
 import os
@@ -11,16 +12,7 @@ import unittest
 
 import paxidore
 from paxidore import Log
-from log_model import drawn, entry_digests, mth, proofs_are, ROUNDS, sha, stored
-
-
-SECTOR_TITLE = b"paxidore log of SHA-256, sectors"
-
-
-def apart(data):
-    """The file with sectors of a log's file."""
-    first, second = SECTOR_TITLE + data[32:64], SECTOR_TITLE + data[64:96]
-    return first.ljust(4096, b"\0") + second.ljust(4096, b"\0") + data[96:]
+from log_model import apart, dense, drawn, entry_digests, mth, proofs_are, ROUNDS, sha, stored
 
 
 def written(path, data):
@@ -75,14 +67,18 @@ class InFile(unittest.TestCase):
     def test_a_head_that_a_crash_left(self):
         """Of a new log's head any part may be written: it has no entries, since none is appended before the head is synced."""
         Log.open(self.path).close()
-        with open(self.path, "rb") as file:
-            head = file.read()
-        for end in range(len(head) + 1):
-            for content in (head[:end], bytes(end), head[:end] + bytes(len(head) - end), bytes(end) + head[end:]):
-                with open(self.path, "wb") as file:
-                    file.write(content)
-                with Log.open(self.path) as log:
-                    self.assertEqual((len(log), log.append([b"an entry"])), (0, 1))
+        head = read(self.path)
+        self.assertEqual((len(head), head), (8192, apart(dense(head))))
+        ends = sorted({min(8192, at + n) for at in (0, 4096) for n in (*range(70), 1000, 4095)} | {8191, 8192})
+        for whole, parts in ((head, ends), (dense(head), range(97))):
+            for end in parts:
+                for content in (whole[:end], bytes(end), whole[:end] + bytes(len(whole) - end), bytes(end) + whole[end:]):
+                    written(self.path, content)
+                    with Log.open(self.path) as log:
+                        # as long as nothing in it is that of an older head alone
+                        is_part = all(byte in (0, own) for byte, own in zip(content, head))
+                        self.assertEqual(read(self.path), head if is_part else dense(head))
+                        self.assertEqual((len(log), log.append([b"an entry"])), (0, 1))
 
     def test_a_new_log_of_several_threads(self):
         """What an append returned is in the file, whoever makes it."""
@@ -248,20 +244,17 @@ class InFile(unittest.TestCase):
 
     def test_a_size_that_is_none(self):
         """A head with a right sum and a size that no log has is damaged. Opening a log changes none of its bytes."""
-        with Log.open(self.path) as log:
-            log.append(drawn(5))
-        with open(self.path, "rb") as file:
-            whole = file.read()
+        new = self.file_of(drawn(5))
+        whole = dense(new)
         for size in (1 << 63, (1 << 64) - 1, 1 << 62, 1 << 59, 1 << 58, 6):
             word = size.to_bytes(8, "little")
-            for at in (32, 64):
-                content = whole[:at] + word + sha(word)[:24] + whole[at + 32 :]
-                with open(self.path, "wb") as file:
-                    file.write(content)
-                self.assertRaises(ValueError, Log.open, self.path)
-                with open(self.path, "rb") as file:
-                    self.assertEqual(file.read(), content)
-        for content in (whole + b"the rest of an append", whole[:64] + bytes(32) + whole[96:]):
+            for data, places in ((whole, (32, 64)), (new, (32, 4128))):
+                for at in places:
+                    content = data[:at] + word + sha(word)[:24] + data[at + 32 :]
+                    written(self.path, content)
+                    self.assertRaises(ValueError, Log.open, self.path)
+                    self.assertEqual(read(self.path), content)
+        for content in (whole + b"the rest of an append", new + b"the rest of an append", whole[:64] + bytes(32) + whole[96:]):
             with open(self.path, "wb") as file:
                 file.write(content)
             with Log.open(self.path) as log:
@@ -273,12 +266,7 @@ class InFile(unittest.TestCase):
         """Its slots have 24 bytes of the sum of the size, and state no root. It goes on, and then states one."""
         entries = drawn(12)
         for size in range(len(entries)):
-            if os.path.exists(self.path):
-                os.remove(self.path)
-            with Log.open(self.path) as log:
-                log.append(entries[:size])
-            with open(self.path, "rb") as file:
-                whole = file.read()
+            whole = dense(self.file_of(entries[:size]))
             word = size.to_bytes(8, "little")
             for slots in (2 * (word + sha(word)[:24]), word + sha(word)[:24] + bytes(32)):
                 old = whole[:32] + slots + whole[96:]
@@ -300,10 +288,8 @@ class InFile(unittest.TestCase):
 
     def test_damage(self):
         """A digest that a root or a proof needs is told; a head without a whole slot has its own error."""
-        with Log.open(self.path) as log:
-            log.append(drawn(11))
-        with open(self.path, "rb") as file:
-            whole = file.read()
+        new = self.file_of(drawn(11))
+        whole = dense(new)
         with open(self.path, "wb") as file:
             file.write(whole[:-1] + bytes([whole[-1] ^ 1]))
         with Log.open(self.path) as log:
@@ -320,10 +306,20 @@ class InFile(unittest.TestCase):
         with open(self.path, "wb") as file:
             file.write(whole[:32] + bytes(64) + whole[96:])
         self.assertRaises(paxidore.DamagedHead, Log.open, self.path)
+        # the same of a file with two sectors, of which nothing is written again then
+        for content in (new[:32] + bytes(32) + new[64:4128] + bytes(32) + new[4160:], bytes(4096) + new[:4128][4096:] + bytes(32) + new[4160:]):
+            written(self.path, content)
+            self.assertRaises(paxidore.DamagedHead, Log.open, self.path)
+            self.assertEqual(read(self.path), content)
+        content = new[:32] + bytes(32) + new[64:-1] + bytes([new[-1] ^ 1])
+        written(self.path, content)
+        with Log.open(self.path) as log:
+            self.assertRaises(paxidore.DamagedLog, log.root)
+        self.assertEqual(read(self.path), content)
 
     def file_of(self, entries):
-        # the log's file of these entries
-        path = self.path + "-dense"
+        # the file of a new log of these entries
+        path = self.path + "-new"
         if os.path.exists(path):
             os.remove(path)
         with Log.open(path) as log:
@@ -331,44 +327,152 @@ class InFile(unittest.TestCase):
         return read(path)
 
     def test_slots_in_two_sectors(self):
-        """It answers as the log whose slots lie in one, and lies as it did."""
+        """So a new log lies. One whose slots lie in one sector answers the same, and each lies as it did."""
         entries = drawn(12)
         digests = entry_digests(entries)
         for size in (0, 1, 2, 5, 11):
-            whole = apart(self.file_of(entries[:size]))
-            written(self.path, whole)
-            with Log.open(self.path) as log:
-                self.assertEqual(read(self.path), whole)
-                self.assertEqual((len(log), log.root(), log.check()), (size, mth(digests[:size]), True))
-                proofs_are(self, log, digests, size)
-                self.assertEqual(log.append(entries[size:]), 12)
-                self.assertEqual((log.root(), log.check()), (mth(digests), True))
-            self.assertEqual(read(self.path), apart(self.file_of(entries)))
-
-    def test_a_sector_that_is_lost(self):
-        """Without its second sector a log is read and goes on; without its first one it is read, and nothing is appended."""
-        entries = drawn(12)
-        digests = entry_digests(entries)
-        for size in (0, 1, 2, 5, 11):
-            whole = apart(self.file_of(entries[:size]))
-            written(self.path, whole[:4096] + bytes(4096) + whole[8192:])
-            with Log.open(self.path) as log:
-                self.assertEqual((len(log), log.root(), log.check()), (size, mth(digests[:size]), True))
-                proofs_are(self, log, digests, size)
-                self.assertEqual(log.append(entries[size:]), 12)
-            with Log.open(self.path) as log:
-                self.assertEqual((len(log), log.root()), (12, mth(digests)))
-            for lost in (bytes(4096), os.urandom(4096)):
-                written(self.path, lost + whole[4096:])
-                with Log.open(self.path, read_only=True) as log:
+            whole = self.file_of(entries[:size])
+            self.assertEqual(whole, apart(dense(whole)))
+            for lies in (bytes, dense):
+                written(self.path, lies(whole))
+                with Log.open(self.path) as log:
+                    self.assertEqual(read(self.path), lies(whole))
                     self.assertEqual((len(log), log.root(), log.check()), (size, mth(digests[:size]), True))
                     proofs_are(self, log, digests, size)
-                self.assertRaises(paxidore.DamagedHead, Log.open, self.path)
-                self.assertEqual(read(self.path), lost + whole[4096:])
+                    self.assertEqual(log.append(entries[size:]), 12)
+                    self.assertEqual((log.root(), log.check()), (mth(digests), True))
+                self.assertEqual(read(self.path), lies(self.file_of(entries)))
+
+    def test_a_sector_that_is_lost(self):
+        """The log is read of the other one, and who opens it to append writes the lost one again."""
+        entries = drawn(12)
+        digests = entry_digests(entries)
+        for size in (0, 1, 2, 5, 11):
+            whole = self.file_of(entries[:size])
+            for at in (0, 4096):
+                for lost in (bytes(4096), os.urandom(4096)):
+                    torn = whole[:at] + lost + whole[at + 4096 :]
+                    written(self.path, torn)
+                    with Log.open(self.path, read_only=True) as log:
+                        self.assertEqual((len(log), log.root(), log.check()), (size, mth(digests[:size]), True))
+                        proofs_are(self, log, digests, size)
+                    self.assertEqual(read(self.path), torn)
+                    with Log.open(self.path) as log:
+                        self.assertEqual(read(self.path), whole)
+                        self.assertEqual((len(log), log.root(), log.check()), (size, mth(digests[:size]), True))
+                        self.assertEqual(log.append(entries[size:]), 12)
+                    self.assertEqual(read(self.path), self.file_of(entries))
+
+    def test_a_sector_that_cannot_be_read(self):
+        """It is lost as long as nothing is written there. Where the other one is not there, nothing is made of the file."""
+        entries = drawn(12)
+        digests = entry_digests(entries)
+        real_read, real_write = os.pread, os.pwrite
+        for size, at in ((size, at) for size in (0, 5) for at in (0, 4096)):
+            whole = self.file_of(entries[:size])
+            bad = [at, at + 4096]
+
+            def pread(file, count, place):
+                if place < bad[1] and place + count > bad[0]:
+                    raise OSError(errno.EIO, "a bad sector")
+                return real_read(file, count, place)
+
+            def pwrite(file, data, place):
+                if place <= at and place + len(data) >= at + 4096:
+                    bad[:] = [0, 0]
+                return real_write(file, data, place)
+
+            os.pread, os.pwrite = pread, pwrite
+            try:
+                # an older file, and one whose other sector is not there
+                for other in (dense(whole), bytes(8192), whole[: 4096 - at] + bytes(32) + whole[4128 - at :]):
+                    written(self.path, other)
+                    if len(other) >= bad[1]:
+                        self.assertRaises(OSError, Log.open, self.path)
+                        self.assertRaises(OSError, Log.open, self.path, read_only=True)
+                        self.assertEqual(read(self.path), other)
+                written(self.path, whole[:at] + b"?" * 4096 + whole[at + 4096 :])
+                with Log.open(self.path, read_only=True) as log:
+                    self.assertEqual((len(log), log.root(), log.check()), (size, mth(digests[:size]), True))
+                with Log.open(self.path) as log:
+                    self.assertEqual((bad, read(self.path)), ([0, 0], whole))
+                    self.assertEqual((log.append(entries[size:]), log.root()), (12, mth(digests)))
+                # a digest
+                bad[:] = [8192 + 32 * 20, 8192 + 32 * 21]
+                with Log.open(self.path) as log:
+                    with self.assertRaises(OSError) as raised:
+                        for index in range(12):
+                            log.inclusion(index)
+                    self.assertEqual(raised.exception.errno, errno.EIO)
+            finally:
+                os.pread, os.pwrite = real_read, real_write
+
+    def test_a_file_that_grows_within_a_call(self):
+        """A reader that saw the length before an append, and the head behind it, sees the log."""
+        entries = drawn(9)
+        real = os.fstat
+        with Log.open(self.path) as keeper, Log.open(self.path, read_only=True) as log:
+            keeper.append(entries[:3])
+
+            def fstat(file):
+                seen = real(file)
+                if len(keeper) < 9:
+                    os.fstat = real
+                    keeper.append(entries[len(keeper) :])
+                return seen
+
+            for call in (log.root, log.check, lambda: log.inclusion(2)):
+                os.fstat = fstat
+                try:
+                    call()
+                finally:
+                    os.fstat = real
+            self.assertEqual((len(log), log.root()), (9, mth(entry_digests(entries))))
+
+    def test_a_slot_of_another_size(self):
+        """The one of the two that the log has is written over the other one, whichever it is."""
+        entries = drawn(12)
+        older, whole = self.file_of(entries[:5]), self.file_of(entries)
+        for at in (32, 4128):
+            written(self.path, whole[:at] + older[at : at + 32] + whole[at + 32 :])
+            with Log.open(self.path) as log:
+                self.assertEqual((len(log), log.root()), (12, mth(entry_digests(entries))))
+            self.assertEqual(read(self.path), whole)
+
+    def test_healing_that_is_cut(self):
+        """Whichever part of a sector is written again, the log is read, and the next opener goes on."""
+        entries = drawn(9)
+        whole, root = self.file_of(entries), mth(entry_digests(entries))
+        real = os.pwrite
+        for at in (0, 4096):
+            torn = whole[:at] + os.urandom(4096) + whole[at + 4096 :]
+            for fails_at in (1, 2):
+                for part in (0, 1, 20, 31, 32, 33, 40, 52, 60, 63, 64, 65, 4095, 4096):
+                    written(self.path, torn)
+                    count = [0]
+
+                    def write(file, view, at):
+                        count[0] += 1
+                        if count[0] == fails_at:
+                            real(file, view[:part], at)
+                            raise OSError("no space")
+                        return real(file, view, at)
+
+                    os.pwrite = write
+                    try:
+                        Log.open(self.path).close()
+                    except OSError:
+                        self.assertEqual(count[0], fails_at)
+                    finally:
+                        os.pwrite = real
+                    with Log.open(self.path, read_only=True) as log:
+                        self.assertEqual((len(log), log.root(), log.check()), (9, root, True))
+                    Log.open(self.path).close()
+                    self.assertEqual(read(self.path), whole)
 
     def test_a_sector_that_is_lost_meanwhile(self):
-        """An append is refused by name, and writes nothing."""
-        whole = apart(self.file_of(drawn(5)))
+        """An append is refused by name, and writes nothing. Who opens the log again goes on."""
+        whole = self.file_of(drawn(5))
         written(self.path, whole)
         with Log.open(self.path) as log:
             with open(self.path, "r+b") as file:
@@ -376,14 +480,16 @@ class InFile(unittest.TestCase):
             self.assertRaises(paxidore.DamagedHead, log.append, [b"more"])
             self.assertEqual(len(log), 5)
         self.assertEqual(read(self.path), bytes(4096) + whole[4096:])
+        with Log.open(self.path) as log:
+            self.assertEqual((read(self.path), log.append([b"more"])), (whole, 6))
 
     def test_sectors_and_a_step_that_is_cut(self):
         """Whichever steps of an append are written, the log is as it was or has the entries."""
         entries = drawn(9)
         digests = entry_digests(entries)
-        before = apart(self.file_of(entries[:5]))
+        new = self.file_of(entries[:5])
         real = os.pwrite
-        for fails_at in range(1, 6):
+        for before, fails_at in ((before, fails_at) for before in (new, dense(new)) for fails_at in range(1, 6)):
             for part in (0, 1, 7):
                 written(self.path, before)
                 with Log.open(self.path) as log:
@@ -553,8 +659,8 @@ class InFile(unittest.TestCase):
             log.append(drawn(9))
             os.pread = lambda file, count, at: b"" if at else real(file, count, at)
             try:
-                self.assertRaisesRegex(ValueError, "shorter", log.root)
-                self.assertRaisesRegex(ValueError, "shorter", log.append, [b"x"])
+                self.assertRaisesRegex(paxidore.ShortLog, "shorter", log.root)
+                self.assertRaisesRegex(paxidore.ShortLog, "shorter", log.append, [b"x"])
                 # what is read in parts is read
                 os.pread = lambda file, count, at: real(file, min(count, 5), at)
                 self.assertEqual(log.append([b"x"]), 10)

@@ -80,8 +80,8 @@ pub enum Refused {
     NoLog,
     /// The file of a log ends before the digests of the log's size.
     Short,
-    /// The file has the title of a log's, and neither of its two slots is whole; or its first sector is lost, and it is to be
-    /// written.
+    /// The file has the title of a log's, and neither of its two slots is whole; or its first sector was lost while the log was
+    /// open.
     DamagedHead,
     /// The file of a log has a digest that is not the one that was stored, or states another root.
     Damaged,

@@ -107,9 +107,9 @@ impl Log {
 
     /// The log that a file keeps; a new one where there is no such file. It is locked until the log is dropped.
     ///
-    /// The log has the entries of the last append that returned, or also those of the one that was under way. Opening changes no file
-    /// that has a log. A forked process does not append to the file that its parent opened. Errors: `InvalidData` where the file is
-    /// no log's or ends early, `WouldBlock` where it is open already, those of files.
+    /// The log has the entries of the last append that returned, or also those of the one that was under way. Opening writes a sector
+    /// again that was lost, or else the head as it is. A forked process does not append to the file that its parent opened. Errors:
+    /// `InvalidData` where the file is no log's or ends early, `WouldBlock` where it is open already, those of files.
     pub fn open<P: AsRef<Path>>(path: P) -> io::Result<Log> {
         Log::open_within(path, Duration::ZERO)
     }

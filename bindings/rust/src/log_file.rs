@@ -29,6 +29,13 @@ pub(crate) struct LogFile {
 const PIECES: usize = 384;
 const STEPS: usize = 8;
 
+// The two sectors of a file's slots, and how each begins.
+const SECTOR: usize = 4096;
+const SECTOR_TITLE: &[u8; 32] = b"paxidore log of SHA-256, sectors";
+
+// What a system answers that cannot read what a disk has: EIO.
+const UNREADABLE: i32 = 5;
+
 // What is to be written: the places and counts of steps, and their bytes.
 struct Plan {
     steps: Vec<Piece>,
@@ -90,6 +97,43 @@ fn sync_folder(path: &Path) -> io::Result<()> {
     File::open(folder)?.sync_all()
 }
 
+// Reads bytes from a place on. Of one of the two sectors that cannot be read it gives zeros, where the other one is there.
+fn read_sectors(
+    into: &mut [u8],
+    at: usize,
+    read: impl Fn(&mut [u8], usize) -> io::Result<()>,
+) -> io::Result<()> {
+    match read(into, at) {
+        Err(error) if is_unreadable(&error) && at < 2 * SECTOR => {}
+        done => return done,
+    }
+    let (mut rest, mut place) = (into, at);
+    while !rest.is_empty() && place < 2 * SECTOR {
+        let sector = place / SECTOR * SECTOR;
+        let (part, behind) = rest.split_at_mut((sector + SECTOR - place).min(rest.len()));
+        match read(part, place) {
+            Err(error) if is_unreadable(&error) => {
+                let mut title = [0; 32];
+                read(&mut title, SECTOR - sector)?;
+                if title != *SECTOR_TITLE {
+                    return Err(error);
+                }
+                part.fill(0);
+            }
+            done => done?,
+        }
+        (rest, place) = (behind, sector + SECTOR);
+    }
+    if rest.is_empty() {
+        return Ok(());
+    }
+    read(rest, place)
+}
+
+fn is_unreadable(error: &io::Error) -> bool {
+    error.raw_os_error() == Some(UNREADABLE)
+}
+
 impl LogFile {
     pub(crate) fn open(path: &Path, wait: Duration) -> io::Result<LogFile> {
         let path = std::env::current_dir()?.join(path);
@@ -110,7 +154,7 @@ impl LogFile {
         }
     }
 
-    // Writes the head of a new log, or that of the file again.
+    // Writes the two sectors of a new log, one that was lost, or the head again.
     fn begun(&self) -> Result<(), LogError> {
         self.carry_out(&self.made()?)?;
         // whoever made a log that has no entry may have ended before its name was on the disk
@@ -140,7 +184,29 @@ impl LogFile {
             )
             .into());
         }
-        let file_len = self.file.metadata()?.len() as usize;
+        let mut length = self.file.metadata()?.len() as usize;
+        loop {
+            let answer = self.asked(&mut call, length);
+            let before = length;
+            match answer {
+                // a keeper may have appended since: a head that was read later says more digests than the file had
+                Err(LogError::Refused(Refused::Short)) => {
+                    length = self.file.metadata()?.len() as usize;
+                    if length <= before {
+                        return answer;
+                    }
+                }
+                _ => return answer,
+            }
+        }
+    }
+
+    // The same, of a file of this length.
+    fn asked(
+        &self,
+        call: &mut impl FnMut(&mut LogPieces) -> i32,
+        file_len: usize,
+    ) -> Result<(), LogError> {
         let mut places = [Piece { at: 0, len: 0 }; PIECES];
         let (mut read, mut bytes) = (0, Vec::new());
         loop {
@@ -161,10 +227,22 @@ impl LogFile {
             for piece in &places[read..asked] {
                 let begin = bytes.len();
                 bytes.resize(begin + piece.len, 0);
-                self.file
-                    .read_exact_at(&mut bytes[begin..], piece.at as u64)?;
+                self.read_piece(&mut bytes[begin..], piece.at)?;
             }
             read = asked;
+        }
+    }
+
+    // Reads a piece, of which a sector that cannot be read is lost. One that ends behind the file is `Short`.
+    fn read_piece(&self, into: &mut [u8], at: usize) -> Result<(), LogError> {
+        match read_sectors(into, at, |part, place| {
+            self.file.read_exact_at(part, place as u64)
+        }) {
+            Ok(()) => Ok(()),
+            Err(error) if error.kind() == io::ErrorKind::UnexpectedEof => {
+                Err(Refused::Short.into())
+            }
+            Err(error) => Err(error.into()),
         }
     }
 
@@ -322,7 +400,7 @@ impl LogFile {
 
     pub(crate) fn check(&self) -> Result<bool, LogError> {
         let mut whole = vec![0; self.file.metadata()?.len() as usize];
-        self.file.read_exact_at(&mut whole, 0)?;
+        self.read_piece(&mut whole, 0)?;
         // SAFETY: as in `made`.
         let answer = unsafe { sys::paxidore_log_file_check(whole.as_ptr(), whole.len()) };
         Ok(verdict(answer)?)
@@ -342,4 +420,63 @@ impl Drop for LogFile {
 fn room(count: usize) -> usize {
     // SAFETY: the call asks for nothing.
     unsafe { sys::paxidore_log_file_room(count) }
+}
+
+#[cfg(test)]
+mod tests {
+    use super::*;
+
+    // Reads of bytes of which some cannot be read.
+    fn read_of(
+        file: &[u8],
+        bad: std::ops::Range<usize>,
+        at: usize,
+        count: usize,
+    ) -> io::Result<Vec<u8>> {
+        let mut into = vec![1; count];
+        read_sectors(&mut into, at, |part, place| {
+            let end = place + part.len();
+            if place < bad.end && end > bad.start {
+                return Err(io::Error::from_raw_os_error(UNREADABLE));
+            }
+            part.copy_from_slice(&file[place..end]);
+            Ok(())
+        })?;
+        Ok(into)
+    }
+
+    #[test]
+    fn a_sector_that_cannot_be_read() -> io::Result<()> {
+        let mut file = vec![7; 3 * SECTOR];
+        for at in [0, SECTOR] {
+            file[at..at + 32].copy_from_slice(SECTOR_TITLE);
+        }
+        for at in [0, SECTOR] {
+            let bad = at..at + SECTOR;
+            let mut lost = file.clone();
+            lost[bad.clone()].fill(0);
+            for (place, count) in [
+                (0, 96),
+                (SECTOR, 64),
+                (0, 8192),
+                (0, 12288),
+                (100, 9000),
+                (8192, 32),
+                (8100, 200),
+            ] {
+                assert_eq!(
+                    read_of(&file, bad.clone(), place, count)?,
+                    lost[place..place + count]
+                );
+            }
+            // the other one is not there
+            let mut none = file.clone();
+            none[SECTOR - at] ^= 1;
+            assert!(read_of(&none, bad, at, 64).is_err());
+        }
+        assert!(read_of(&file, 0..2 * SECTOR, 0, 64).is_err());
+        assert!(read_of(&file, 8192..8193, 8192, 32).is_err());
+        assert!(read_of(&file, 8192..8193, 0, 12288).is_err());
+        Ok(())
+    }
 }

@@ -252,23 +252,24 @@ fn files() -> Result<(), LogError> {
 
 const SECTOR: usize = 4096;
 
-// The file with sectors of a log's file.
-fn apart(dense: &[u8]) -> Vec<u8> {
-    let mut file = vec![0; 2 * SECTOR];
-    for (slot, at) in [(32, 0), (64, SECTOR)] {
-        file[at..at + 32].copy_from_slice(b"paxidore log of SHA-256, sectors");
-        file[at + 32..at + 64].copy_from_slice(&dense[slot..slot + 32]);
-    }
-    file.extend_from_slice(&dense[96..]);
-    file
+// The older file, whose slots lie in one sector, of a log's file with two.
+fn dense(file: &[u8]) -> Vec<u8> {
+    let title = b"paxidore log, digests of SHA-256";
+    let (first, second) = (&file[32..64], &file[SECTOR + 32..SECTOR + 64]);
+    [title, first, second, &file[2 * SECTOR..]].concat()
 }
 
-// The log's file of these entries.
-fn dense(room: &Room, entries: &[Vec<u8>]) -> Result<Vec<u8>, LogError> {
-    let path = room.0.join("dense");
+// The file of a new log of these entries.
+fn made(room: &Room, entries: &[Vec<u8>]) -> Result<Vec<u8>, LogError> {
+    let path = room.0.join("new");
     let _ = fs::remove_file(&path);
     Log::open(&path)?.append(entries)?;
-    Ok(fs::read(path)?)
+    let file = fs::read(path)?;
+    for at in [0, SECTOR] {
+        assert_eq!(&file[at..at + 32], b"paxidore log of SHA-256, sectors");
+        assert_eq!(file[at + 64..at + SECTOR], [0; SECTOR - 64]);
+    }
+    Ok(file)
 }
 
 // The log has these entries' digests.
@@ -289,41 +290,48 @@ fn slots_in_two_sectors() -> Result<(), LogError> {
     let entries = entries(12);
     let leaves = digests(&entries);
     for size in [0, 1, 2, 5, 11] {
-        let whole = apart(&dense(&room, &entries[..size])?);
-        fs::write(room.log(), &whole)?;
-        let mut log = Log::open(room.log())?;
-        assert_eq!(fs::read(room.log())?, whole);
-        is_log_of(&log, &leaves[..size])?;
-        assert_eq!(log.append(&entries[size..])?, 12);
-        is_log_of(&log, &leaves)?;
-        assert_eq!(fs::read(room.log())?, apart(&dense(&room, &entries)?));
-        drop(log);
-        // without its second sector it goes on
-        let mut lost = whole.clone();
-        lost[SECTOR..2 * SECTOR].fill(0);
-        fs::write(room.log(), &lost)?;
-        let mut log = Log::open(room.log())?;
-        is_log_of(&log, &leaves[..size])?;
-        assert_eq!(log.append(&entries[size..])?, 12);
-        drop(log);
-        is_log_of(&Log::open(room.log())?, &leaves)?;
-        // without its first one it is read, and nothing is written
+        let whole = made(&room, &entries[..size])?;
+        for lies in [<[u8]>::to_vec as fn(&[u8]) -> Vec<u8>, dense] {
+            fs::write(room.log(), lies(&whole))?;
+            let mut log = Log::open(room.log())?;
+            assert_eq!(fs::read(room.log())?, lies(&whole));
+            is_log_of(&log, &leaves[..size])?;
+            assert_eq!(log.append(&entries[size..])?, 12);
+            is_log_of(&log, &leaves)?;
+            assert_eq!(fs::read(room.log())?, lies(&made(&room, &entries)?));
+        }
+        // without one of its sectors it is read, and who opens it to append writes that sector again
+        for (at, byte) in [(0, 0), (0, 0xa5), (SECTOR, 0), (SECTOR, 0xa5)] {
+            let mut lost = whole.clone();
+            lost[at..at + SECTOR].fill(byte);
+            fs::write(room.log(), &lost)?;
+            is_log_of(&Log::open_read_only(room.log())?, &leaves[..size])?;
+            assert_eq!(fs::read(room.log())?, lost);
+            let mut log = Log::open(room.log())?;
+            assert_eq!(fs::read(room.log())?, whole);
+            is_log_of(&log, &leaves[..size])?;
+            assert_eq!(log.append(&entries[size..])?, 12);
+            assert_eq!(fs::read(room.log())?, made(&room, &entries)?);
+        }
+        // while it is open nothing is written
         let mut lost = whole.clone();
         lost[..SECTOR].fill(0);
-        fs::write(room.log(), &lost)?;
-        is_log_of(&Log::open_read_only(room.log())?, &leaves[..size])?;
-        assert_eq!(
-            Log::open(room.log()).unwrap_err().kind(),
-            ErrorKind::InvalidData
-        );
-        assert_eq!(fs::read(room.log())?, lost);
-        // nor while it is open
         fs::write(room.log(), &whole)?;
         let mut log = Log::open(room.log())?;
         fs::write(room.log(), &lost)?;
         assert_eq!(refusal(log.append(&["more"])), Refused::DamagedHead);
         assert_eq!(fs::read(room.log())?, lost);
     }
+    // without both there is none
+    let mut lost = made(&room, &entries)?;
+    lost[..SECTOR].fill(0);
+    lost[SECTOR + 32] ^= 1;
+    fs::write(room.log(), &lost)?;
+    assert_eq!(
+        Log::open(room.log()).unwrap_err().kind(),
+        ErrorKind::InvalidData
+    );
+    assert_eq!(fs::read(room.log())?, lost);
     Ok(())
 }
 
@@ -334,7 +342,22 @@ fn each_bit_of_the_head() -> Result<(), LogError> {
     for append in entries.chunks(4) {
         Log::open(room.log())?.append(append)?;
     }
-    let (whole, root) = (fs::read(room.log())?, mth(&digests(&entries)));
+    let (new, root) = (fs::read(room.log())?, mth(&digests(&entries)));
+    // in a sector it is written again, but for the zeros behind the slot
+    for place in (0..70).chain(SECTOR - 1..SECTOR + 70) {
+        let mut flipped = new.clone();
+        flipped[place] ^= 1 << (place % 8);
+        fs::write(room.log(), &flipped)?;
+        let log = Log::open(room.log())?;
+        assert_eq!((log.len(), log.root(11)?), (11, root));
+        let is_read = place % SECTOR < 64;
+        assert_eq!(
+            fs::read(room.log())?,
+            if is_read { new.clone() } else { flipped }
+        );
+    }
+    // in an older file
+    let whole = dense(&new);
     // behind the head stand the digests of 11 entries: 2 * 11 less three ones
     for bit in 0..8 * (whole.len() - 32 * 19) {
         let mut flipped = whole.clone();
@@ -403,17 +426,31 @@ fn waits_for_the_lock() -> Result<(), LogError> {
 fn heads_that_a_crash_left() -> Result<(), LogError> {
     let room = Room::new("heads");
     Log::open(room.log())?;
-    let head = fs::read(room.log())?;
-    for end in 0..=head.len() {
-        let zeros = vec![0; head.len()];
-        for content in [
-            head[..end].to_vec(),
-            zeros[..end].to_vec(),
-            [&head[..end], &zeros[end..]].concat(),
-            [&zeros[..end], &head[end..]].concat(),
-        ] {
-            fs::write(room.log(), content)?;
-            assert_eq!(Log::open(room.log())?.append(&["an entry"])?, 1);
+    let new = fs::read(room.log())?;
+    let ends = (0..70).chain(SECTOR - 1..SECTOR + 70);
+    for (head, ends) in [
+        (new.clone(), ends.chain([2 * SECTOR]).collect()),
+        (dense(&new), (0..=96).collect::<Vec<_>>()),
+    ] {
+        for end in ends {
+            let zeros = vec![0; head.len()];
+            for content in [
+                head[..end].to_vec(),
+                zeros[..end].to_vec(),
+                [&head[..end], &zeros[end..]].concat(),
+                [&zeros[..end], &head[end..]].concat(),
+            ] {
+                fs::write(room.log(), &content)?;
+                let mut log = Log::open(room.log())?;
+                // as long as nothing in it is that of an older head alone
+                let is_part = content
+                    .iter()
+                    .zip(&new)
+                    .all(|(byte, own)| [0, *own].contains(byte));
+                let made = if is_part { new.clone() } else { dense(&new) };
+                assert_eq!(fs::read(room.log())?, made);
+                assert_eq!(log.append(&["an entry"])?, 1);
+            }
         }
     }
     Ok(())
@@ -423,9 +460,10 @@ fn heads_that_a_crash_left() -> Result<(), LogError> {
 fn sizes_that_are_none() -> Result<(), LogError> {
     let room = Room::new("sizes");
     Log::open(room.log())?.append(&["a", "b", "c"])?;
-    let whole = fs::read(room.log())?;
+    let new = fs::read(room.log())?;
+    let old = dense(&new);
     for size in [1 << 63, u64::MAX, 1 << 62, 1 << 59, 1 << 58, 4] {
-        for at in [32, 64] {
+        for (whole, at) in [(&old, 32), (&old, 64), (&new, 32), (&new, SECTOR + 32)] {
             let mut content = whole.clone();
             content[at..at + 8].copy_from_slice(&size.to_le_bytes());
             content[at + 8..at + 32].copy_from_slice(&sha256(&size.to_le_bytes())[..24]);

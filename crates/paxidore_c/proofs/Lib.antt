@@ -11,6 +11,7 @@ pub mod KeptLogs
 pub mod Layouts
 pub mod Lengths
 pub mod LogCalls
+pub mod Made
 pub mod MapLemmas
 pub mod Numbers
 pub mod Parts

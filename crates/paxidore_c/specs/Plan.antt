@@ -61,6 +61,14 @@ pub record Carries (P : List ℕ → Type 0) (file bytes_before bytes_after : Li
   pub some : 0 < length plan
   pub said : P (carried plan file)
 
+-- A caller is handed steps, one at least, and wherever they stop, this is said of the file.
+pub record StopsAs (P : List ℕ → Type 0) (file bytes_before bytes_after : List ℕ) (bytes_count : ℕ)
+    (steps_before steps_after : List (List ℕ)) (steps_count : ℕ) : Type 0 where
+  pub plan : List Step
+  pub handed : IsHanded plan bytes_before bytes_after bytes_count steps_before steps_after steps_count
+  pub some : 0 < length plan
+  pub each : (left : List ℕ) → IsStopped plan file left → P left
+
 -- What is refused leaves a caller's buffers for steps as before; only where they lack room, it writes the counts.
 pub record LeavesSteps (LacksRoom : Type 0) (bytes_before bytes_after : List ℕ)
     (bytes_count_before bytes_count_after : ℕ) (steps_before steps_after : List (List ℕ))

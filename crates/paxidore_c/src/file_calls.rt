@@ -16,15 +16,14 @@ ghost use Rattle.ark_paths.specs.Pair.{Digest};
 ghost use Rattle.ark_trees.specs.Rfc6962.{entry_hash};
 ghost use Rattle.log_file.specs.Faults.{log_size, of_first};
 ghost use Rattle.log_file.specs.LogFile.{stored_in};
-ghost use Rattle.log_store.specs.Store.{new_head, IsPartOf, IsSettled};
 ghost use Rattle.merkle_log.specs.Kept.{front, Keeps};
 ghost use Rattle.merkle_log.specs.Stored.{row_at};
 ghost use Rattle.paxidore_c.specs.Answer.{leaves_in, refusal_code};
 ghost use Rattle.paxidore_c.specs.Cut.{parts_by};
 ghost use Rattle.paxidore_c.specs.KeptLog.{log_root};
-ghost use Rattle.paxidore_c.specs.Layouts.{grown_size, log_in, HasLog, IsFirstLost, IsSameLog};
-ghost use Rattle.paxidore_c.specs.LogFiles.{AsksFirst, IsHeadReason, IsReason, TellsWhy, call_code, check_code};
-ghost use Rattle.paxidore_c.specs.Plan.{Carries, Grows, HasRead, IsHanded, LeavesSteps};
+ghost use Rattle.paxidore_c.specs.Layouts.{grown_size, log_in, HasLog, IsFirstLost};
+ghost use Rattle.paxidore_c.specs.LogFiles.{AsksFirst, IsReason, TellsWhy, call_code, check_code};
+ghost use Rattle.paxidore_c.specs.Plan.{Grows, HasRead, IsHanded, LeavesSteps};
 ghost use Rattle.paxidore_c.specs.declared.file_calls.not_done.NotDone.TheVariants.{HeadDamaged, More, Refusal};
 ghost use Rattle.paxidore_c.specs.declared.refused.Refused.TheVariants.{Room};
 
@@ -36,11 +35,13 @@ mod grown;
 mod handed;
 mod laid;
 mod layouts;
+mod made;
+pub mod making;
 mod not_done;
 pub mod proving;
 mod replay;
 
-use crate::file_calls::answers::{made_of, root_of, size_of};
+use crate::file_calls::answers::{root_of, size_of};
 use crate::file_calls::asked::{Asked, ask};
 use crate::file_calls::checked::log_laid;
 use crate::file_calls::grown::hand_over_growth;
@@ -90,114 +91,6 @@ fn code_of(done: Result<(), NotDone>) -> i32
         Ok(()) => 0,
         Err(not_done) => not_done.code(),
     }
-}
-
-fn made_in(
-    alloc: Global,
-    bytes: &mut [u8],
-    bytes_len: &mut usize,
-    steps: &mut [[usize; 2]],
-    steps_len: &mut usize,
-    places: &mut [[usize; 2]],
-    places_len: &mut usize,
-    file_len: usize,
-    pieces: &[u8],
-) -> Result<(), NotDone>
-    ghost file: { List ℕ }
-    ensures first { AsksFirst (result ≡ Err More) file_len places_len.old places_len.new
-        places.old places.new }
-    ensures same { HasRead file file_len places_len.old places.old pieces.now
-        → (leaves : List Digest) → HasLog leaves file
-        → OnOk result (Carries (IsSameLog file) file bytes.old bytes.new bytes_len.new
-        steps.old steps.new steps_len.new) }
-    ensures made { HasRead file file_len places_len.old places.old pieces.now → file ≡ []
-        → OnOk result (Carries (λ left. IsSettled [] (log_in left)) file bytes.old bytes.new
-        bytes_len.new steps.old steps.new steps_len.new) }
-    ensures others { HasRead file file_len places_len.old places.old pieces.now
-        → IsPartOf new_head (log_in file) ⊎ OnOk result (Carries (IsSameLog file) file bytes.old
-        bytes.new bytes_len.new steps.old steps.new steps_len.new) }
-    ensures lost { HasRead file file_len places_len.old places.old pieces.now
-        → IsFirstLost file → OnOk result ⊥ }
-    ensures head { HasRead file file_len places_len.old places.old pieces.now
-        → IfErr result (λ why. why ≡ HeadDamaged → IsFirstLost file) }
-    ensures refused { IfErr result IsHeadReason }
-    ensures left { IfErr result (λ why. LeavesSteps (why ≡ Refusal Room) bytes.old bytes.new
-        bytes_len.old bytes_len.new steps.old steps.new steps_len.old steps_len.new) }
-{
-    ask(alloc, Asked::Made, file_len, places, places_len, pieces)?;
-    let plan = made_of::<Brand>(alloc, file_len, &places[..*places_len], pieces)?;
-    hand_over_steps(alloc, &plan, bytes, bytes_len, steps, steps_len)
-}
-
-/// Returns how many bytes are enough for what is to be written for so many entries more.
-#[unsafe(no_mangle)]
-pub extern "C" fn paxidore_log_file_room(count: usize) -> usize
-    // two digests for each entry and one for each level, and the head
-    ensures { count < 2 ^ 57 → result ≡ 64 * count + 2304 }
-{
-    count.saturating_mul(64).saturating_add(2304)
-}
-
-/// Hands over what is to be written to a file before a keeper uses it: the head of a log of no entries, where it has no byte or
-/// no more than a part of that head; else its own head again. Its own refusals: `E_HEAD` where the first sector of a file with sectors
-/// is lost, `E_ROOM` for `bytes` and `steps`.
-#[unsafe(no_mangle)]
-pub extern "C" fn paxidore_log_file_make(
-    alloc: Global,
-    steps: &mut Steps,
-    pieces: &mut Pieces,
-) -> i32
-    ghost file: { List ℕ }
-    ensures first { AsksFirst (result ≡ negsuc 9) pieces.old.file_len pieces.old.places_len
-        pieces.new.places_len pieces.old.places.now pieces.new.places.now }
-
-    // Once all is carried out, the log's file is as it is, ..
-    ensures same { HasRead file pieces.old.file_len pieces.old.places_len pieces.old.places.now
-        pieces.old.bytes.now → (leaves : List Digest) → HasLog leaves file
-        → result ≡ pos 0 → Carries (IsSameLog file) file
-        steps.old.bytes.now steps.new.bytes.now steps.new.bytes_len
-        steps.old.places.now steps.new.places.now steps.new.places_len }
-
-    // .. and one that has no byte has the log of no entries, and stays it if one of its slots is lost.
-    ensures made { HasRead file pieces.old.file_len pieces.old.places_len pieces.old.places.now
-        pieces.old.bytes.now → file ≡ [] → result ≡ pos 0
-        → Carries (λ left. IsSettled [] (log_in left)) file
-        steps.old.bytes.now steps.new.bytes.now steps.new.bytes_len
-        steps.old.places.now steps.new.places.now steps.new.places_len }
-
-    // What is neither empty nor a part of that head stays as it is.
-    ensures others { HasRead file pieces.old.file_len pieces.old.places_len pieces.old.places.now
-        pieces.old.bytes.now → result ≡ pos 0 → IsPartOf new_head (log_in file)
-        ⊎ Carries (IsSameLog file) file
-        steps.old.bytes.now steps.new.bytes.now steps.new.bytes_len
-        steps.old.places.now steps.new.places.now steps.new.places_len }
-
-    // Where the first sector is lost, and only there, the head counts as damaged: nothing is to be written.
-    ensures lost { HasRead file pieces.old.file_len pieces.old.places_len pieces.old.places.now
-        pieces.old.bytes.now → IsFirstLost file → result ≢ pos 0 }
-    ensures head { HasRead file pieces.old.file_len pieces.old.places_len pieces.old.places.now
-        pieces.old.bytes.now → result ≡ negsuc 12 → IsFirstLost file }
-    ensures refused { TellsWhy IsHeadReason result }
-    ensures left { result ≢ pos 0 → LeavesSteps (result ≡ refusal_code Room) steps.old.bytes.now
-        steps.new.bytes.now steps.old.bytes_len steps.new.bytes_len steps.old.places.now
-        steps.new.places.now steps.old.places_len steps.new.places_len }
-    ensures lent_steps { (steps.new.places.ghost_name ≡ steps.old.places.ghost_name)
-        × (steps.new.bytes.ghost_name ≡ steps.old.bytes.ghost_name) }
-    ensures lent { (pieces.new.places.ghost_name ≡ pieces.old.places.ghost_name)
-        × (pieces.new.bytes.now ≡ pieces.old.bytes.now)
-        × (pieces.new.file_len ≡ pieces.old.file_len) }
-{
-    code_of(made_in(
-        alloc,
-        steps.bytes,
-        &mut steps.bytes_len,
-        steps.places,
-        &mut steps.places_len,
-        pieces.places,
-        &mut pieces.places_len,
-        pieces.file_len,
-        pieces.bytes,
-    ))
 }
 
 fn size_in(

@@ -1,21 +1,21 @@
 //! What is said of a log's file by what was read of it, and what is to be written there. The file is that of the caller, whole.
 
-ghost use Rattle.std.specs.Prelude.{◌≡◌, ◌≢◌, ◌⊎◌, ◌≤◌, ◌<◌, ◌+◌, ◌++◌, List, ℕ, [], length, take, true, IfErr, IfOk, OnOk, Ok, Err, Some};
+ghost use Rattle.std.specs.Prelude.{◌≡◌, ◌≢◌, ◌≤◌, ◌<◌, ◌+◌, ◌++◌, List, ℕ, [], length, take, true, IfErr, IfOk, OnOk, Ok, Err, Some};
 ghost use Rattle.sha2.specs.Sha256.{sha256};
 ghost use Rattle.ark_paths.specs.Pair.{Digest};
 ghost use Rattle.ark_trees.specs.Rfc6962.{node_of};
 ghost use Rattle.log_store.specs.Refused.{index_outcome, older_outcome};
 ghost use Rattle.log_store.specs.Sectors.{layout_in};
-ghost use Rattle.log_store.specs.Store.{new_head, IsBeforeOrAfter, IsPartOf, IsSettled};
+ghost use Rattle.log_store.specs.Store.{IsBeforeOrAfter, IsSettled};
 ghost use Rattle.merkle_log.specs.Edge.{all_of};
 ghost use Rattle.merkle_log.specs.Log.{consistency_path, inclusion_path, merkle_tree_hash};
 ghost use Rattle.merkle_log.specs.Verdict.{consistency_verdict, inclusion_verdict};
 ghost use Rattle.log_file.specs.Faults.{log_size, of_first};
-ghost use Rattle.paxidore_c.specs.Layouts.{grown_size, log_in, HasLog, IsFirstLost, IsSameLog};
-ghost use Rattle.paxidore_c.specs.LogFiles.{IsHeadReason, IsReason};
+ghost use Rattle.paxidore_c.specs.Layouts.{grown_size, log_in, HasLog, IsFirstLost};
+ghost use Rattle.paxidore_c.specs.LogFiles.{IsReason};
 ghost use Rattle.paxidore_c.specs.Plan.{IsReadOf, IsStopped, carried};
-ghost use Rattle.paxidore_c.specs.declared.file_calls.not_done.NotDone.TheVariants.{HeadDamaged, More, Refusal};
-ghost use Rattle.paxidore_c.specs.declared.refused.Refused.TheVariants.{Memory, Room};
+ghost use Rattle.paxidore_c.specs.declared.file_calls.not_done.NotDone.TheVariants.{More, Refusal};
+ghost use Rattle.paxidore_c.specs.declared.refused.Refused.TheVariants.{Room};
 
 use crate::file_calls::laid::{laid_replay, steps_laid, writable_replay};
 use crate::file_calls::not_done::NotDone;
@@ -129,72 +129,6 @@ pub fn root_of<F: Held>(
     let own = laid_replay::<F>(alloc, file_len, places, pieces)?;
     match log_store::root(&own, Some(size)) {
         Ok(found) => Ok(found.1),
-        Err(stop) => Err(NotDone::of_stop(stop)),
-    }
-}
-
-// Puts a sync alone in the place of no step.
-fn with_sync(alloc: Global, plan: Vec<Step>) -> Result<Vec<Step>, NotDone>
-    ensures same { IfOk result (λ steps. (file : List ℕ)
-        → carried steps.items file ≡ carried plan.items file) }
-    ensures some { IfOk result (λ steps. 0 < length steps.items) }
-    ensures refused { IfErr result (λ why. why ≡ Refusal Memory) }
-    ensures done { result ≢ Err More }
-    ensures room { result ≢ Err (Refusal Room) }
-{
-    if !plan.is_empty() {
-        return Ok(plan);
-    }
-    let mut sync = Vec::new(alloc);
-    sync.push(Step {
-        at: 0,
-        bytes: Vec::new(alloc),
-    })?;
-    Ok(sync)
-}
-
-/// Returns what is to be written to a file before it is appended to: the head of a new log, or its own head again.
-pub fn made_of<F: Held>(
-    alloc: Global,
-    file_len: usize,
-    places: &[[usize; 2]],
-    pieces: &[u8],
-) -> Result<Vec<Step>, NotDone>
-    requires places { places.now ≡ F.places }
-    requires pieces { pieces.now ≡ F.pieces }
-    requires bytes { file_len ≡ F.size }
-
-    // The file of a log stays as it is.
-    ensures kept { IsReadOf F.places F.pieces F.file → F.size ≡ length F.file
-        → (leaves : List Digest) → HasLog leaves F.file
-        → IfOk result (λ steps. IsSameLog F.file (carried steps.items F.file)) }
-
-    // A file that has no byte has the log of no entries, and stays it if one of its slots is lost.
-    ensures made { IsReadOf F.places F.pieces F.file → F.size ≡ length F.file → F.file ≡ []
-        → IfOk result (λ steps. IsSettled [] (log_in (carried steps.items F.file))) }
-
-    // What is neither empty nor a part of that head stays as it is.
-    ensures others { IsReadOf F.places F.pieces F.file → F.size ≡ length F.file
-        → IsPartOf new_head (log_in F.file)
-        ⊎ IfOk result (λ steps. IsSameLog F.file (carried steps.items F.file)) }
-
-    // Where the first sector is lost, and only there, the head counts as damaged.
-    ensures lost { IsReadOf F.places F.pieces F.file → F.size ≡ length F.file
-        → IsFirstLost F.file → OnOk result ⊥ }
-    ensures head { IsReadOf F.places F.pieces F.file → F.size ≡ length F.file
-        → IfErr result (λ why. why ≡ HeadDamaged → IsFirstLost F.file) }
-    ensures refused { IfErr result IsHeadReason }
-    ensures some { IfOk result (λ steps. 0 < length steps.items) }
-    ensures done { result ≢ Err More }
-    ensures room { result ≢ Err (Refusal Room) }
-{
-    let mut own = writable_replay::<F>(alloc, file_len, places, pieces)?;
-    let layout = own.layout;
-    match log_store::make(&mut own) {
-        Ok(()) => {
-            let steps = steps_laid::<F>(own, layout)?;
-            with_sync(alloc, steps)
-        }
         Err(stop) => Err(NotDone::of_stop(stop)),
     }
 }

@@ -10,13 +10,13 @@ use crate::file_calls::asking::Asking;
 use crate::file_calls::layouts::layout_on;
 use crate::file_calls::not_done::NotDone;
 use crate::refused::Refused;
-use log_store::{Disk, Layout, SectorDisk, Stop};
+use log_store::{Disk, Layout, SectorDisk};
 use std::alloc::Global;
 
 /// What a call on a log's file asks for.
 #[derive(Clone, Copy)]
 pub enum Asked {
-    /// The head of a new log.
+    /// The sectors of a new log, a sector that is lost, or the head again.
     Made,
     /// The size.
     Size,
@@ -31,13 +31,24 @@ pub enum Asked {
 }
 
 // What a call gives is not looked at.
-fn leave<T: Drop, R: Drop>(_done: Result<T, Stop<R>>) {}
+fn leave<T: Drop>(_done: T) {}
 
 impl Asked {
-    // Makes the call, of which the disk alone tells.
-    fn try_on<D: Disk>(self, alloc: Global, disk: &mut D) {
+    // Makes the call that is made of the file itself, of which the disk alone tells.
+    fn try_on_file<D: Disk>(self, disk: &mut D) {
         match self {
-            Asked::Made => leave(log_store::make(disk)),
+            Asked::Made => leave(log_store::lay_out(disk)),
+            _ => {}
+        }
+    }
+
+    // Makes the call, of which the disk alone tells.
+    fn try_on<D: Disk + Drop>(self, alloc: Global, disk: &mut SectorDisk<D>) {
+        match self {
+            Asked::Made => {
+                leave(log_store::heal(disk));
+                leave(log_store::make(disk));
+            }
             Asked::Size => leave(log_store::size(disk)),
             Asked::Root(size) => leave(log_store::root(disk, Some(size))),
             // what is read for one entry is read for any number of them
@@ -52,7 +63,21 @@ impl Asked {
     }
 }
 
-// The pieces that are to be read first: those that tell the layout of the file, or else those that the call reads.
+// The pieces that the call reads that is made of the file itself.
+fn missing_whole(
+    alloc: Global,
+    asked: Asked,
+    file_len: usize,
+    read: &[[usize; 2]],
+    pieces: &[u8],
+) -> Vec<[usize; 2]> {
+    let mut whole = Asking::new(alloc, file_len, read, pieces);
+    asked.try_on_file(&mut whole);
+    whole.missing.into_inner()
+}
+
+// The pieces that are to be read first: those that tell whether the file is new, and then its layout; or else those that the call
+// reads.
 fn missing_for(
     alloc: Global,
     asked: Asked,
@@ -60,6 +85,10 @@ fn missing_for(
     read: &[[usize; 2]],
     pieces: &[u8],
 ) -> Vec<[usize; 2]> {
+    let whole = missing_whole(alloc, asked, file_len, read, pieces);
+    if !whole.is_empty() {
+        return whole;
+    }
     let sectors = Asking::new(alloc, file_len, read, pieces);
     let layout = layout_on(&sectors).unwrap_or(Layout::Dense);
     let first = sectors.missing.into_inner();

@@ -1,11 +1,12 @@
-use Rattle.std.proofs.Common.{[], sym, subst}
+use Rattle.std.proofs.Common.{sym, subst}
 use Rattle.std.proofs.Math.Logic.{⊎_map}
 use Rattle.std.proofs.lemmas.Result.{IfOk-weaker}
 use Rattle.log_file.specs.LogFile.{IsLogFile}
-use Rattle.log_store.specs.Store.{new_head, IsPartOf, IsSettled}
-use Rattle.paxidore_c.specs.Layouts.{log_in, IsSameLog}
-use Rattle.paxidore_c.proofs.Layouts.{begun-settled, read-of, steps-same}
-use Rattle.paxidore_c.proofs.file_calls.answers.made_of.Goals as goal
+use Rattle.log_store.specs.Store.{new_head, IsPartOf}
+use Rattle.paxidore_c.specs.Layouts.{IsSameLog}
+use Rattle.paxidore_c.proofs.Layouts.{read-of, steps-same}
+use Rattle.paxidore_c.proofs.Made.{remade-stopped}
+use Rattle.paxidore_c.proofs.file_calls.made.remade_of.Goals as goal
 
 pub returns-in_ok-steps-in-Ok-clause-kept : goal.returns-in_ok-steps-in-Ok-clause-kept
 returns-in_ok-steps-in-Ok-clause-kept g c = λ read size leaves log.
@@ -21,18 +22,22 @@ returns-in_ok-steps-in-Ok-clause-kept g c = λ read size leaves log.
     IfOk-weaker c.with_sync.result _ _ (λ steps carries. subst (IsSameLog file) (sym (carries file)) same)
     c.with_sync.ensures.same
 
-pub returns-in_ok-steps-in-Ok-clause-made : goal.returns-in_ok-steps-in-Ok-clause-made
-returns-in_ok-steps-in-Ok-clause-made g c = λ read size empty.
+pub returns-in_ok-steps-in-Ok-clause-stopped : goal.returns-in_ok-steps-in-Ok-clause-stopped
+returns-in_ok-steps-in-Ok-clause-stopped g c = λ read size leaves log.
     let file = g.F.Held.file in
     let own = c.in_ok-own.own in
     let new = c.make.new.disk in
     let is = c.in_ok-own.ensures.layout read size in
-    let settled = begun-settled own.layout new.layout own.disk.steps new.disk.steps c.in_ok-steps-in-Ok.steps.items file
-    is c.in_ok-own.ensures.there c.in_ok-steps-in-Ok.ensures.layout c.in_ok-own.ensures.nothing
-    c.in_ok-steps-in-Ok.ensures.steps empty
-    (c.in-Ok.ensures.made (read, size)) in
+    let none = c.in_ok-own.ensures.nothing in
+    let seen = read-of own.layout own.disk.steps file is none in
+    let there = subst (IsLogFile leaves) (sym seen) log in
+    let run = c.make.ensures.any_moment (read, size) leaves there in
     IfOk-weaker c.with_sync.result _ _
-    (λ steps carries. subst (λ f. IsSettled [] (log_in f)) (sym (carries file)) settled) c.with_sync.ensures.same
+    (λ steps within. λ left stopped. remade-stopped leaves own.layout new.layout own.disk.steps new.disk.steps
+    c.in_ok-steps-in-Ok.steps.items own.disk.done file left is c.in_ok-own.ensures.there
+    c.in_ok-steps-in-Ok.ensures.layout none c.in_ok-own.ensures.start c.in_ok-steps-in-Ok.ensures.steps there run.each
+    (within file left stopped))
+    c.with_sync.ensures.stopped
 
 pub returns-in_ok-steps-in-Ok-clause-others : goal.returns-in_ok-steps-in-Ok-clause-others
 returns-in_ok-steps-in-Ok-clause-others g c = λ read size.
