@@ -17,7 +17,7 @@ pub struct Head {
 }
 
 /// Returns the head of a log. The only error is `OutOfMemory`.
-pub fn head_of(alloc: Global, log: &Log<[u8; 32], LogHasher>) -> Result<Head, Error>
+pub fn head_to_publish(alloc: Global, log: &Log<[u8; 32], LogHasher>) -> Result<Head, Error>
     ensures root { let root = root_at node_of log.now (length log.now.digests) in
         AnswersBy (λ head. head.root) root result }
     ensures size { IfOk result (λ head. head.size ≡ length log.now.digests) }

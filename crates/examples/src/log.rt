@@ -38,7 +38,7 @@ pub fn open(alloc: Global, entries: &[Vec<u8>]) -> Result<MerkleTree<Sha256Log>,
 }
 
 /// Returns what the log publishes.
-pub fn head_of(log: &MerkleTree<Sha256Log>) -> Head
+pub fn head_to_publish(log: &MerkleTree<Sha256Log>) -> Head
     ensures root { root_in (⟦<Sha256Log as Views>⟧.tree log.now) ≡ Ok result.root }
     ensures size { result.size ≡ length log.now.leaves }
 {

@@ -8,7 +8,7 @@ use ark_crypto_primitives::sponge::poseidon::parameters::{Power, bls12_381_fr};
 use std::alloc::Global;
 
 /// Returns the hash of two elements. Parameters of rate 2 are ready, so it is never `None`. The only error is `OutOfMemory`.
-pub fn hash_of_two(
+pub fn poseidon_of_two(
     alloc: Global,
     left: Bls12_381Fr,
     right: Bls12_381Fr,

@@ -2,13 +2,16 @@
 //!
 //! A keeper hands over the part of the tree that a call needs as the bytes of a tree that hides the rest (`MapTree::from_bytes`).
 
-ghost use Rattle.std.specs.Prelude.{◌≡◌, ◌≢◌, ◌++◌, true, drop, length, map, pos, IfOk, IfSome, Ok, Some, None};
+ghost use Rattle.std.specs.Prelude.{◌≡◌, ◌≢◌, ◌++◌, List, true, drop, length, map, pos, IfOk, IfSome, Ok, Some, None};
 ghost use Rattle.ark_base.specs.Outcome.{Answers, AnswersBy};
 ghost use Rattle.merkle_map.specs.Bytes.{itself, tree_of_bytes};
 ghost use Rattle.merkle_map.specs.KeyProof.{BindsBy};
+ghost use Rattle.merkle_map.specs.Map.{Entry, root_of_map};
 ghost use Rattle.merkle_map.specs.Parts.{value_seen};
 ghost use Rattle.merkle_map.specs.Sha256.{sha256_map};
 ghost use Rattle.merkle_map.specs.Transition.{change_seen, LeadsTo};
+ghost use Rattle.merkle_map.specs.Tree.{shape_digest, Shows};
+ghost use Rattle.merkle_map.specs.Whole.{IsRootOf};
 ghost use Rattle.paxidore_c.specs.Answer.{done_code, refusal_code, refusing, verdict_code, GivesCode, CallGivesBy, Hands};
 ghost use Rattle.paxidore_c.specs.Maps.{changed_code, changes_of as changes_by, key_proof_in, key_verdict, map_changed, map_proof, map_refused, map_root as root_in, refusing_map, rows_found, tree_changed, IfMade, IsProvedBy, IsRootOfAll, IsRootOfStore};
 ghost use Rattle.paxidore_c.specs.declared.refused.Refused.TheVariants.{Room};
@@ -97,6 +100,16 @@ pub extern "C" fn paxidore_map_verify_absent(
     verdict_code(is_shown_in_map(alloc, root, key, None, proof))
 }
 
+// The digest of a tree. The only error is `OutOfMemory`.
+fn digest_of_tree(alloc: Global, tree: &MapTree<[u8; 32]>) -> Result<[u8; 32], Error>
+    ensures digest { Answers (shape_digest sha256_map tree.now) result }
+    ensures maps { (entries : List Entry) → Shows sha256_map 0 tree.now entries
+        → root_of_map sha256_map entries ≡ shape_digest sha256_map tree.now }
+    ensures store { IsRootOf sha256_map tree.now }
+{
+    tree.root(alloc, &Sha256Map::new())
+}
+
 // The digest of the tree that bytes are. Errors: those of `MapTree::from_bytes`; `OutOfMemory`.
 fn root_of(alloc: Global, tree: &[u8]) -> Result<[u8; 32], Error>
     ensures answer { Answers (root_in tree.now) result }
@@ -104,7 +117,7 @@ fn root_of(alloc: Global, tree: &[u8]) -> Result<[u8; 32], Error>
     ensures store { IfOk result (λ root. IfOk (tree_of_bytes tree.now) (IsRootOfStore root)) }
 {
     let tree = MapTree::from_bytes(alloc, tree)?;
-    tree.root(alloc, &Sha256Map::new())
+    digest_of_tree(alloc, &tree)
 }
 
 /// Writes the digest of the tree that bytes are to `root`.
@@ -179,11 +192,7 @@ pub extern "C" fn paxidore_map_prove(
 }
 
 // The changes: the first keys get the values, and the keys behind them are removed. The only error is `OutOfMemory`.
-fn changes_of(
-    alloc: Global,
-    keys: &[[u8; 32]],
-    values: &[[u8; 32]],
-) -> Result<Vec<Change>, Error>
+fn changes_of(alloc: Global, keys: &[[u8; 32]], values: &[[u8; 32]]) -> Result<Vec<Change>, Error>
     ensures { AnswersBy (λ changes. map change_seen changes.items)
         (Ok (changes_by keys.now values.now)) result }
 {

@@ -88,7 +88,7 @@ fn write_block_roots<H: ArrayHash>(
 }
 
 // Writes the root of each of so many blocks of leaves to the last places of memory for their tree.
-fn write_top<H: ArrayHash>(
+fn write_tops<H: ArrayHash>(
     top: &mut [[u8; 32]],
     count: usize,
     memory: &mut [[u8; 32]],
@@ -120,7 +120,7 @@ fn root_by_blocks<H: ArrayHash>(
     ensures { IfSome (parts_by leaves.now lengths.now) (λ xs.
         root (alike H.node_hash) (map H.leaf_hash xs) ≡ Ok result) }
 {
-    write_top::<H>(top, lengths.len() / BLOCK, memory, leaves, lengths);
+    write_tops::<H>(top, lengths.len() / BLOCK, memory, leaves, lengths);
     rebuild::<H>(top);
     *kept_root(top)
 }

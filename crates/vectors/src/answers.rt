@@ -1,7 +1,7 @@
 //! The lines, and what is answered.
 
 use crate::points::{element_answer, group_answer, multiple_of};
-use crate::signatures::{signature_line, verdict_of};
+use crate::signatures::{ed25519_line, verdict_of};
 use crate::texts::{array_of, bytes_of_word, hex_word};
 use crate::transcripts::transcript_of;
 use ark_crypto_primitives::Error;
@@ -35,7 +35,7 @@ pub fn answer_line(alloc: Global, line: &str) -> Result<Option<String>, Error> {
         "multiple" => multiple_of(alloc, rest),
         "element" => element_answer(alloc, rest),
         "group" => group_answer(alloc, rest),
-        "ed25519-sign" => signature_line(alloc, rest),
+        "ed25519-sign" => ed25519_line(alloc, rest),
         "ed25519-verify" => verdict_of(alloc, rest),
         "transcript" => transcript_of(alloc, rest),
         _ => Ok(None),

@@ -6,7 +6,7 @@ use ark_crypto_primitives::signature::ed25519::{public_key, sign, verify};
 use std::alloc::Global;
 
 /// Returns the key of a seed, and its signature of a message.
-pub fn signature_line(alloc: Global, words: &str) -> Result<Option<String>, Error> {
+pub fn ed25519_line(alloc: Global, words: &str) -> Result<Option<String>, Error> {
     let Some((seed, message)) = words.split_once(' ') else {
         return Ok(None);
     };

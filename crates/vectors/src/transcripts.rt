@@ -39,7 +39,7 @@ fn squeezed<F: Field>(alloc: Global, words: &str) -> Result<Option<String>, Erro
     let mut sponge = PoseidonSponge::<F, Power>::new(alloc, &parameters)?;
     let mut out = String::new(alloc);
     for word in words {
-        if !step(alloc, &mut sponge, word, &mut out)? {
+        if !transcript_step(alloc, &mut sponge, word, &mut out)? {
             return Ok(None);
         }
     }
@@ -47,7 +47,7 @@ fn squeezed<F: Field>(alloc: Global, words: &str) -> Result<Option<String>, Erro
 }
 
 // Does one step; false where the word is none.
-fn step<F: Field>(
+fn transcript_step<F: Field>(
     alloc: Global,
     sponge: &mut PoseidonSponge<F, Power>,
     word: &str,

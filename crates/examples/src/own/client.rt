@@ -27,7 +27,7 @@ pub fn holds(
 
 /// Returns whether a log that has grown did nothing else, by the bytes of a consistency proof. Errors: those of
 /// `verify_consistency_bytes`.
-pub fn continues(alloc: Global, old: &Head, new: &Head, proof: &[u8]) -> Result<bool, Error> {
+pub fn goes_on(alloc: Global, old: &Head, new: &Head, proof: &[u8]) -> Result<bool, Error> {
     verify_consistency_bytes(
         alloc, &LogHasher, old.size, &old.root, new.size, &new.root, proof,
     )

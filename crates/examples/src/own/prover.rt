@@ -31,7 +31,7 @@ impl Config for Notes {
 
 /// Returns the path of a leaf in the tree of some leaves; `None` where their count is no power of two above one, or the index
 /// is not below it. Errors: those of the hashes.
-pub fn path_of<P: Config>(
+pub fn path_for<P: Config>(
     alloc: Global,
     leaf: &LeafParam<P>,
     pair: &TwoToOneParam<P>,

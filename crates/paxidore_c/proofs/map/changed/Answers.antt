@@ -14,9 +14,9 @@ returns-clause-leads c =
     let wanted = changes_of c.args.keys.now c.args.values.now in
     led c.args.root.now c.in_ok-made.made.0 (tree_of_bytes c.args.tree.now) c.in_ok-tree.tree c.in-Some.new own wanted
     c.in_ok-new.field-0 c.in_ok-tree.ensures.answer c.in-Some.is
-    (subst (λ h. IfSome c.in_ok-new.field-0 (LeadsOn h c.args.root.now c.in_ok-tree.tree own)) c.new.ensures.hashes
-    c.in_ok-new.ensures.bound)
+    (subst (λ h. IfSome c.in_ok-new.field-0 (LeadsOn h c.args.root.now c.in_ok-tree.tree own))
+    c.new-hasher.ensures.hashes c.in_ok-new.ensures.bound)
     (ap (map change_seen) c.deref.ensures.value
     ∙ sym (done_injective {E = Error} wanted (map change_seen c.in_ok-changes.changes.items) c.in_ok-changes.ensures))
-    (subst (λ h. shape_digest h c.in-Some.new ≡ Ok c.in_ok-made.made.0) c.new.ensures.hashes
+    (subst (λ h. shape_digest h c.in-Some.new ≡ Ok c.in_ok-made.made.0) c.new-hasher.ensures.hashes
     c.in_ok-made.ensures.digest)

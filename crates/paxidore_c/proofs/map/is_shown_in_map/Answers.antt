@@ -14,6 +14,7 @@ returns-clause-bound c =
     let proof = proof_seen itself c.in_ok-proof.proof in
     shown-read (key_proof_in c.args.proof.now) proof (BindsBy sha256_map c.args.root.now c.args.key.now value)
     c.verify.result
-    (subst (λ h. proof_of_bytes h.nothing c.args.proof.now ≡ Ok proof) c.new.ensures.hashes c.in_ok-proof.ensures.answer)
+    (subst (λ h. proof_of_bytes h.nothing c.args.proof.now ≡ Ok proof) c.new-hasher.ensures.hashes
+    c.in_ok-proof.ensures.answer)
     (subst (λ h. IfOk c.verify.result (λ accepted. accepted ≡ true
-    → BindsBy h c.args.root.now c.args.key.now value proof)) c.new.ensures.hashes c.verify.ensures.bound)
+    → BindsBy h c.args.root.now c.args.key.now value proof)) c.new-hasher.ensures.hashes c.verify.ensures.bound)

@@ -11,7 +11,7 @@ returns-clause-accepted c =
     let proof = proof_seen itself c.in_ok-proof.proof in
     proved-bytes (λ bytes. bytes.items) c.args.key.now (tree_of_bytes c.args.tree.now) c.in_ok-tree.tree proof
     c.to_bytes.result c.in_ok-tree.ensures.answer
-    (subst (λ h. IsKeyProofAccepted h c.args.key.now c.in_ok-tree.tree proof) c.new.ensures.hashes
+    (subst (λ h. IsKeyProofAccepted h c.args.key.now c.in_ok-tree.tree proof) c.new-hasher.ensures.hashes
     c.in_ok-proof.ensures.accepted)
-    (subst (λ h. AnswersBy (λ bytes. bytes.items) (proof_bytes h.nothing proof) c.to_bytes.result) c.new.ensures.hashes
-    c.to_bytes.ensures.written) c.to_bytes.ensures.sized
+    (subst (λ h. AnswersBy (λ bytes. bytes.items) (proof_bytes h.nothing proof) c.to_bytes.result)
+    c.new-hasher.ensures.hashes c.to_bytes.ensures.written) c.to_bytes.ensures.sized
