@@ -210,7 +210,7 @@ static void appends(void) {
         memset(torn.bytes, 0, part);
         CHECK(is_made(&torn, 1, 2 * SECTOR) && is_same(&torn, &sectors));
     }
-    /* a part of an older head is completed, once it is no part of the two sectors; a whole one is written again */
+    /* a part of an older head is made a log's, once it is no part of the two sectors; a whole one is written again */
     lay_dense(&file, &sectors);
     for (size_t part = 0; part <= head; part++)
         for (size_t len = part; len <= head; len += head - part ? head - part : 1) {
@@ -220,7 +220,7 @@ static void appends(void) {
             if (part <= strlen("paxidore log"))
                 CHECK(is_made(&torn, 1, 2 * SECTOR) && is_same(&torn, &sectors));
             else
-                CHECK(is_made(&torn, 2, head) && is_same(&torn, &file));
+                CHECK(is_made(&torn, 2, head) && is_log_of(&torn, 0, 1));
         }
     /* other files stay */
     for (size_t len = 1; len <= 3 * SECTOR; len += SECTOR - 1) {
