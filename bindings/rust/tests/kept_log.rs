@@ -212,7 +212,7 @@ fn a_file_is_read_again() -> Result<(), LogError> {
 #[test]
 fn files() -> Result<(), LogError> {
     let room = Room::new("files");
-    for content in [&b"x"[..], &[0; 97], &[0; 1000]] {
+    for content in [&b"x"[..], &[b'x'; 97], &[0; 2 * SECTOR + 1]] {
         fs::write(room.log(), content)?;
         assert_eq!(
             Log::open(room.log()).unwrap_err().kind(),
@@ -447,8 +447,16 @@ fn heads_that_a_crash_left() -> Result<(), LogError> {
                     .iter()
                     .zip(&new)
                     .all(|(byte, own)| [0, *own].contains(byte));
-                let made = if is_part { new.clone() } else { dense(&new) };
-                assert_eq!(fs::read(room.log())?, made);
+                // one with a whole slot stays
+                let old = dense(&new);
+                let made = if is_part {
+                    &new
+                } else if content.len() == 96 && content[..64] == old[..64] {
+                    &content
+                } else {
+                    &old
+                };
+                assert_eq!(&fs::read(room.log())?, made);
                 assert_eq!(log.append(&["an entry"])?, 1);
             }
         }
