@@ -12,10 +12,6 @@ AreFound prefixes suffixes depth firsts group beside = (above : List (List Diges
     → AreGroups above prefixes (suc depth) firsts
     → (g : ℕ) → g < group → get_or beside g [] ≡ get_or (get_or above (get_or firsts g 0) []) depth []
 
-pub found-none : (prefixes : List ℕ) (suffixes : List (List Digest)) (depth : ℕ) (firsts : List ℕ)
-    → AreFound prefixes suffixes depth firsts 0 []
-found-none prefixes suffixes depth firsts above count len paths inside groups g below = absurd (omega (arith, below))
-
 pub found-more : (prefixes : List ℕ) (suffixes : List (List Digest)) (depth : ℕ) (firsts : List ℕ) (group : ℕ)
     (beside : List Digest) → length beside ≡ group → group < length firsts
     → AreFound prefixes suffixes depth firsts group beside → (digest : Digest)

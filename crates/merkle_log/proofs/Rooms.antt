@@ -1,8 +1,7 @@
 -- A path that is written to a list with as many places as it has digests.
-use Rattle.std.proofs.Common.{zero, suc, ◌≡◌, ℕ, ◌+◌, ◌-◌, ◌/◌, ◌%◌, ◌<◌, ◌≤◌, ◌^◌, Bool, true, false, ◌==◌, if◌then◌else◌, List, [], ◌∷◌, ◌++◌, length, map, take, arith, refl, ap, subst, sym, ◌∙◌, inl, inr}
-use Rattle.std.proofs.Math.ListN.{set}
+use Rattle.std.proofs.Common.{zero, suc, ◌≡◌, ℕ, ◌+◌, ◌-◌, ◌/◌, ◌%◌, ◌<◌, ◌≤◌, ◌^◌, Bool, true, false, ◌==◌, if◌then◌else◌, List, ◌∷◌, ◌++◌, length, map, take, arith, refl, ap, subst, sym, ◌∙◌, inl, inr}
 use Rattle.std.proofs.lemmas.Bool.{cases_lt, eq-eqb, ne_eqb}
-use Rattle.std.proofs.lemmas.List.{map_push, take_all, take_more_set}
+use Rattle.std.proofs.lemmas.List.{take_all}
 use Rattle.ark_paths.specs.Pair.{Digest}
 use Rattle.merkle_log.specs.Received.{consistency_length, inclusion_length}
 use Rattle.merkle_log.specs.Walk.{has_beside, used_below}
@@ -11,12 +10,6 @@ use Rattle.merkle_log.proofs.Tests.{twice}
 use Rattle.merkle_log.proofs.Verdicts.{pow_above}
 
 -- ---- places
-
--- a digest that is put behind the first ones
-pub put-seen : {A : Type 0} (numbers : A → Digest) (path : List A) (at : ℕ) (digest : A) → at < length path
-    → map numbers (take (at + 1) (set path at digest)) ≡ map numbers (take at path) ++ (numbers digest ∷ [])
-put-seen numbers path at digest inside =
-    ap (map numbers) (take_more_set path at digest inside) ∙ map_push numbers (take at path) digest
 
 -- all places
 pub take-path : {A : Type 0} (numbers : A → Digest) (path : List A) (at : ℕ) → at ≡ length path

@@ -1,8 +1,6 @@
 -- What was hashed together, place by place.
-use Rattle.std.proofs.Common.{◌≡◌, ◌<◌, ◌≤◌, ℕ, zero, suc, List, [], ◌∷◌, length, map, get_or, Bor, IfOk, Ok, Err, true, ap, sym, ◌∙◌, subst, arith}
+use Rattle.std.proofs.Common.{◌≡◌, ◌<◌, ◌≤◌, ℕ, zero, suc, List, [], ◌∷◌, length, map, get_or, Bor, IfOk, Ok, Err, ap, sym, ◌∙◌, subst, arith}
 use Rattle.std.proofs.lemmas.List.{length-map, get_or-map}
-use Rattle.std.proofs.lemmas.Slice.Eq.{bytes_eq-Decides}
-use Rattle.std.specs.Str.{bytes_eq}
 use Rattle.std.specs.declared.vec.Vec.{Vec}
 use Rattle.ark_base.specs.Digits.{itself}
 use Rattle.ark_base.specs.Outcome.{Outcome}
@@ -63,14 +61,6 @@ entry-at numbers h entries digests n entry digest is within inside at there =
     ∙ first-at (of_couple h.leaf) (map seen entries) (map numbers digests) n (seen entry) (numbers digest) is
     (omega (arith, inside, length-map digests numbers))
     ∙ ap Ok own
-
--- the digest of an entry with this key and this value
-pub same-entry : (h : MapHashes) (own : Key × Digest) (key value digest : List ℕ) → bytes_eq own.0 key ≡ true
-    → bytes_eq own.1 value ≡ true → h.leaf own.0 own.1 ≡ Ok digest → h.leaf key value ≡ Ok digest
-same-entry h own key value digest keys values is =
-    let k = (bytes_eq-Decides own.0 key).0 keys in
-    let v = (bytes_eq-Decides own.1 value).0 values in
-    (λ i. h.leaf (sym k i) (sym v i)) ∙ is
 
 -- what a call hashed of the first items
 pub first-hashed : {A D Z : Type 0} (numbers : D → Digest) (hash : A → Outcome Digest) (items own : List A)

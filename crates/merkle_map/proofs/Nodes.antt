@@ -2,7 +2,7 @@
 use Rattle.std.proofs.Common.{◌≡◌, ℕ, List, [], ◌∷◌, ◌++◌, length, take, drop, refl, ap, sym, ◌∙◌}
 use Rattle.std.proofs.Math.Seq.{take-append_seam, drop-append_seam}
 use Rattle.merkle_map.specs.Map.{Node, Nothing, Leaf, Pair}
-use Rattle.merkle_map.specs.Sha256.{node_bytes, IsOf32}
+use Rattle.merkle_map.specs.Sha256.{node_bytes, HasPartsOf32}
 
 tails : (a b : ℕ) (xs ys : List ℕ) → a ∷ xs ≡ b ∷ ys → xs ≡ ys
 tails a b xs ys e = ap (λ (l : List ℕ). elim l [ [] ↦ xs | x ∷ rest ↦ rest ]) e
@@ -16,7 +16,7 @@ second_same : (a b x y : List ℕ) → length a ≡ length x → a ++ b ≡ x ++
 second_same a b x y long e = sym (drop-append_seam a b) ∙ ap (drop (length a)) e ∙ ap (λ (n : ℕ). drop n (x ++ y)) long
     ∙ drop-append_seam x y
 
-pub same_node : (a b : Node) → IsOf32 a → IsOf32 b → node_bytes a ≡ node_bytes b → a ≡ b
+pub same_node : (a b : Node) → HasPartsOf32 a → HasPartsOf32 b → node_bytes a ≡ node_bytes b → a ≡ b
 same_node Nothing Nothing p q e = refl
 same_node Nothing (Leaf y) p q e = absurd cc
 same_node Nothing (Pair y z) p q e = absurd cc

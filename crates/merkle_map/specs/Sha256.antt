@@ -19,7 +19,7 @@ sha256_map = record {
 }
 
 -- The node's parts have 32 bytes.
-abbrev pub IsOf32 : Node → Type 0
-IsOf32 Nothing = Unit {0}
-IsOf32 (Leaf entry) = (length entry.key ≡ 32) × (length entry.value ≡ 32)
-IsOf32 (Pair left right) = (length left ≡ 32) × (length right ≡ 32)
+abbrev pub HasPartsOf32 : Node → Type 0
+HasPartsOf32 Nothing = Unit {0}
+HasPartsOf32 (Leaf entry) = (length entry.key ≡ 32) × (length entry.value ≡ 32)
+HasPartsOf32 (Pair left right) = (length left ≡ 32) × (length right ≡ 32)

@@ -10,12 +10,13 @@ ghost use Rattle.merkle_map.specs.Parts.{shape, value_seen};
 ghost use Rattle.merkle_map.specs.Transition.{change_seen, changed_by};
 ghost use Rattle.merkle_map.specs.Tree.{Shape, shape_digest};
 
+use crate::fill::fill;
 use crate::hasher::{MapHasher, MapViews};
 use crate::part::{Entry, Part, find_entry};
 use crate::proof::{KeyProof, climb_down};
 use crate::put::put_in;
 use crate::remove::remove_shown;
-use crate::together::{FEW, fill, fill_together};
+use crate::together::{FEW, fill_together};
 use crate::transition::Change;
 use ark_base::error::Error;
 use std::alloc::Global;
@@ -165,8 +166,8 @@ impl<H: MapViews<Input = [u8; 32]>> KeptMap<H> {
     ///
     /// Errors: those of the hashes, the lowest first, then the leftmost; `OutOfMemory`. What was hashed before is kept.
     pub fn root(&mut self, alloc: Global) -> Result<H::Output, Error>
-        ensures root { AnswersBy H.Output.numbers (root_of_map (H.hashes self.old.hasher) self.old.entries)
-            result }
+        ensures root { AnswersBy H.Output.numbers
+            (root_of_map (H.hashes self.old.hasher) self.old.entries) result }
         ensures same { self.new ≡ self.old }
     {
         let are_few = self.changes < FEW;

@@ -5,6 +5,7 @@
 #![tactic(auto)]
 
 mod bytes;
+mod fill;
 pub mod hasher;
 pub mod kept;
 mod key;

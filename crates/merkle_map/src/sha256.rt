@@ -2,7 +2,7 @@
 
 ghost use Rattle.std.specs.Prelude.{◌≡◌, [], Ok, refl};
 ghost use Rattle.merkle_map.specs.Map.{Node, digest_of};
-ghost use Rattle.merkle_map.specs.Sha256.{sha256_map, node_bytes, IsOf32};
+ghost use Rattle.merkle_map.specs.Sha256.{sha256_map, node_bytes, HasPartsOf32};
 ghost use Rattle.sha2.specs.Sha256.{sha256};
 
 use crate::hasher::{MapHasher, MapViews};
@@ -106,5 +106,5 @@ impl TwoToOneCRHScheme for Sha256Map {
 pub fn nodes_are_apart()
     // The hash of a node is that of its bytes.
     ensures hash { (node : Node) → digest_of sha256_map node ≡ Ok (sha256 (node_bytes node)) }
-    ensures apart { (a b : Node) → IsOf32 a → IsOf32 b → node_bytes a ≡ node_bytes b → a ≡ b }
+    ensures apart { (a b : Node) → HasPartsOf32 a → HasPartsOf32 b → node_bytes a ≡ node_bytes b → a ≡ b }
 {}

@@ -8,6 +8,7 @@ ghost use Rattle.merkle_map.specs.Parts.{shape};
 ghost use Rattle.merkle_map.specs.Together.{IsHashedPair, AreHashedEntries};
 ghost use Rattle.merkle_map.specs.Tree.{shape_digest};
 
+use crate::fill::fill;
 use crate::hasher::{MapHasher, MapViews};
 use crate::key::{are_same_digests, are_same_keys, copy_digest};
 use crate::part::{Entry, Part, Sides};
@@ -24,47 +25,6 @@ const PASSES: usize = 1 << 20;
 
 /// After fewer changes the forks are hashed one by one.
 pub const FEW: usize = 4;
-
-// Hashes a tree, as far as no digest is kept, and keeps the digest of each fork. Errors: as of `digest_of`.
-pub fn fill<D: DigestItem, H: MapViews<Input = [u8; 32], Output = D>>(
-    alloc: Global,
-    hasher: &MapHasher<H>,
-    part: &mut Part<D>,
-) -> Result<D, Error>
-    requires { IsKept D.numbers (H.hashes hasher.now) part.old }
-    ensures digest { AnswersBy D.numbers (shape_digest (H.hashes hasher.now)
-        (shape D.numbers part.old)) result }
-    ensures same { shape D.numbers part.new ≡ shape D.numbers part.old }
-    ensures kept { IsKept D.numbers (H.hashes hasher.now) part.new }
-{
-    match part {
-        Part::Empty => hasher.nothing(alloc),
-        Part::One { entry } => {
-            let entry = &mut **entry;
-            hasher.leaf(alloc, &entry.key, &entry.value)
-        }
-        Part::Fork { sides } => {
-            let Sides {
-                left,
-                right,
-                digest,
-            } = &mut **sides;
-            if let Some(digest) = digest {
-                return copy_digest(alloc, digest);
-            }
-            let l = fill(alloc, hasher, left)?;
-            let r = fill(alloc, hasher, right)?;
-            let own = hasher.pair(alloc, &l, &r)?;
-            let copy = copy_digest(alloc, &own)?;
-            *digest = Some(copy);
-            Ok(own)
-        }
-        Part::Hidden { digest } => {
-            let digest = &mut **digest;
-            copy_digest(alloc, digest)
-        }
-    }
-}
 
 // Where a side's digest comes from.
 #[derive(Drop)]
@@ -211,8 +171,8 @@ fn hash_entries<D: DigestItem, H: MapViews<Input = [u8; 32], Output = D>>(
     hasher: &MapHasher<H>,
     work: &Work<D>,
 ) -> Result<Vec<D>, Error>
-    ensures { IfOk result (λ made. AreHashedEntries D.numbers (H.hashes hasher.now) work.now.entries.items
-        made.items) }
+    ensures { IfOk result (λ made. AreHashedEntries D.numbers (H.hashes hasher.now)
+        work.now.entries.items made.items) }
 {
     let run = lend_couples(alloc, &work.entries)?;
     hasher.leaves_ahead(alloc, &run)
@@ -359,7 +319,8 @@ fn entry_digest<D: DigestItem, H: MapViews<Input = [u8; 32], Output = D>>(
     place: usize,
 ) -> Result<Option<D>, Error>
     requires { AreHashedEntries D.numbers (H.hashes _hasher.now) entries.now digests.now }
-    ensures { IfOk result (IsFor D.numbers ((H.hashes _hasher.now).leaf entry.now.key entry.now.value)) }
+    ensures { IfOk result (IsFor D.numbers
+        ((H.hashes _hasher.now).leaf entry.now.key entry.now.value)) }
 {
     if place >= entries.len() || place >= digests.len() {
         return Ok(None);

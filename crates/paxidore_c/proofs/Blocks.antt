@@ -174,13 +174,6 @@ module _ (node : PlainNode) (made : List ℕ → Digest) (lengths : List ℕ) wh
   abbrev pub AreGone : Option (List (List ℕ)) → ℕ → List Digest → List ℕ → Type 0
   AreGone cut number roots rest = IfSome cut (λ xs. AreBefore node made lengths xs number roots rest)
 
-  pub gone-none : (roots : List Digest) (leaves : List ℕ) → AreGone (parts_by leaves lengths) 0 roots leaves
-  gone-none roots leaves = by_cut (parts_by leaves lengths) refl
-    where
-      by_cut : (cut : Option (List (List ℕ))) → parts_by leaves lengths ≡ cut → AreGone cut 0 roots leaves
-      by_cut None is = tt
-      by_cut (Some xs) is = before-none node made lengths xs roots leaves is
-
   pub gone-more : (cut : Option (List (List ℕ))) (number : ℕ) (roots : List Digest) (rest behind : List ℕ) (d : Digest)
       → AreGone cut number roots rest → number < length roots
       → IfSome (parts_by rest (drop (1024 * number) lengths))
@@ -190,11 +183,6 @@ module _ (node : PlainNode) (made : List ℕ → Digest) (lengths : List ℕ) wh
       → AreGone cut (number + 1) (set roots number d) behind
   gone-more cut number roots rest behind d so below rooted left =
       IfSome_then cut so (λ xs so. before-more node made lengths xs number roots rest behind d so below rooted left)
-
-  pub gone-all : (cut : Option (List (List ℕ))) (number : ℕ) (roots : List Digest) (rest : List ℕ)
-      → AreGone cut number roots rest → length roots ≤ number
-      → IfSome cut (λ xs. AreBlockRoots node (map made xs) roots)
-  gone-all cut number roots rest so all = IfSome_then cut so (λ xs so q below. so.before q (omega arith))
 
 -- the root above leaves is that above the roots of their blocks
 pub root-cut : (node : PlainNode) (made : List ℕ → Digest) (leaves lengths : List ℕ) (roots : List Digest) (d : Digest)

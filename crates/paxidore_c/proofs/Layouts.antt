@@ -222,13 +222,3 @@ steps-same layout new before after steps file is there same none told kept =
     (stopped-longer steps file (carried steps file) (stopped-all steps file))
     (ap (λ l. laid l (carried steps file)) (sym same) ∙ ap (λ s. laid new (carried s file)) told ∙ kept
     ∙ ap (λ s. laid layout (carried s file)) none)
-
--- The steps of a call that begins a log in a file that has no byte.
-pub begun-settled : (layout new : Layout) (before after steps : List Step) (file : List ℕ) → layout ≡ layout_in file
-    → (layout ≡ SecondAlone → ⊥) → new ≡ layout → before ≡ [] → steps ≡ after → file ≡ []
-    → (laid layout (carried before file) ≡ [] → IsSettled [] (laid new (carried after file)))
-    → IsSettled [] (log_in (carried steps file))
-begun-settled layout new before after steps file is there same none told empty made =
-    let dense : layout ≡ Dense = is ∙ ap layout_in empty in
-    grown-settled [] layout new after steps file is there same told
-    (made (ap (λ l. laid l (carried before file)) dense ∙ ap (λ s. carried s file) none ∙ empty))

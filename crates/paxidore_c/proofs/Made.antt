@@ -45,10 +45,6 @@ sync-none at bytes file left begin none told = ⊎_elim
     (λ all. all ∙ ap (λ n. written file n bytes) begin ∙ ap (written file 0) none
     ∙ same-written 0 0 file [] (omega arith) refl) told
 
-pub sync-stopped : (step : Step) (file left : List ℕ) → step.at ≡ 0 → step.bytes.items ≡ []
-    → IsStopped (step ∷ []) file left → left ≡ file
-sync-stopped step file left begin none stopped = sync-none step.at step.bytes.items file left begin none stopped
-
 -- ---- the begin of a file, written again
 
 start-written : (bytes file : List ℕ) → 64 ≤ length file → bytes ≡ take 64 file → written file 0 bytes ≡ file
@@ -157,11 +153,6 @@ alike-intact layout file is alike = subst (λ l. IsIntact l file) (sym is) alike
 
 pub intact-alike : (layout : Layout) (file : List ℕ) → layout ≡ Apart → IsIntact layout file → AreAlike file
 intact-alike layout file is intact = subst (λ l. IsIntact l file) is intact
-
-pub intact-of : (layout : Layout) (steps : List Step) (file : List ℕ) → layout ≡ layout_in file → steps ≡ []
-    → IsIntact layout (carried steps file) → IsIntact (layout_in file) file
-intact-of layout steps file is none intact =
-    subst (λ l. IsIntact l file) is (subst (λ s. IsIntact layout (carried s file)) none intact)
 
 -- Where one is, the file does not stay as it is.
 pub not-alone : (layout : Layout) (steps : List Step) (file : List ℕ) (size : ℕ) → layout ≡ layout_in file
