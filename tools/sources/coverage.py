@@ -8,7 +8,7 @@ from sources.functions import closing, functions, masked
 from sources.scopes import SCOPES, TOP, files, leads, offered, read
 
 # What the crates of tests and the programs call nobody else calls; `secret_calls` is what one test of the gate reads in machine code.
-OWN = ("vectors", "examples", "test_support", "acp", "paxlog", "secret_calls")
+OWN = ("examples", "test_support", "acp", "paxlog", "secret_calls")
 # Calls of which no clause says anything, and why.
 EXCEPTED = {
     "acp_run::words": "it returns what the operating system handed to the program",
