@@ -13,6 +13,7 @@ OWN = ("examples", "test_support", "acp", "paxlog", "secret_calls")
 EXCEPTED = {
     "acp_run::words": "it returns what the operating system handed to the program",
     "ark_trees::Arrays::new": "the value has no parts: there is one of the type",
+    "paxidore_calls::Asking::new": "what a run over it asks for is no promise: the clauses of `ask` hold of whatever it asks for",
     "paxlog_run::Progress::show": "it only shows how far a call is; nothing that a contract sees changes",
 }
 LIMITS = "docs/LIMITS.md"

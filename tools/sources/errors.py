@@ -15,7 +15,7 @@ WORDS = {
     "NoteGivesBy": "the error is the outcome's or a lack of memory (signed_notes, Faults)",
     "SaysBy": "the error, with its line, is the outcome's or a lack of memory (signed_notes, PolicyFiles)",
     "PolicyGivesBy": "the error is the outcome's or a lack of memory (signed_notes, PolicyFiles)",
-    "CallGivesBy": "the error is the outcome's or a lack of memory (paxidore_c, Answer)",
+    "CallGivesBy": "the error is the outcome's or a lack of memory (paxidore_calls, Answer)",
     "RaisesNeeded": "the error stands for a refusal of the hash or for a lack of memory (merkle_log, Edge)",
     "IsRefusedFor": "a fault is the outcome's, Memory, or Damaged of a damaged file; the rest is the disk's (log_store, Refused)",
     "IsRefusedAfter": "IsRefusedFor, or Other of a file that is not that log's (log_store, Refused)",
@@ -34,9 +34,9 @@ WORDS = {
 VIEWS = ("seen_by", "found_seen", "outcome_with", "string_outcome", "result_map_both")
 # The words that say which code a call for C returns.
 CODES = {
-    "GivesCode": "this code, or that of a lack of memory (paxidore_c, Answer)",
-    "Hands": "the code of the outcome, of too little room, or of a lack of memory (paxidore_c, Answer)",
-    "Replaces": "the code of the outcome, or of a lack of memory (paxidore_c, Transcript)",
+    "GivesCode": "this code, or that of a lack of memory (paxidore_calls, Answer)",
+    "Hands": "the code of the outcome, of too little room, or of a lack of memory (paxidore_calls, Answer)",
+    "Replaces": "the code of the outcome, or of a lack of memory (paxidore_calls, Transcript)",
     "TellsVerdict": "0 or 1 as the outcome has it, else that of its error (paxidore_page, Code)",
 }
 

@@ -9,11 +9,11 @@ use Rattle.ark_paths.specs.Pair.{Digest, Hashes}
 use Rattle.ark_paths.specs.Path.{Way}
 use Rattle.ark_paths.specs.Received.{ShowsLeaf, ShowsLeaves, StandInTurn, received_multi_verdict, received_verdict}
 use Rattle.ark_paths.specs.Index.{is_tree_size}
-use Rattle.paxidore_c.specs.Answer.{GivesCode, all_shown, are_indexes, done_code, leaves_for, refusal_code, refused_of, refusing, results_of, shown, verdict_code}
-use Rattle.paxidore_c.proofs.Answering.{refusal-no, zero-says}
-use Rattle.paxidore_c.specs.Hashing.{Hashing, hashes_by, hashes_of, read_path, read_multi_path}
-use Rattle.paxidore_c.specs.declared.refused.Refused.{Refused}
-use Rattle.paxidore_c.specs.declared.refused.Refused.TheVariants.{Memory, Truncated, Invalid, Height, Size, Lengths, Count, Index, Room, Hidden, Other}
+use Rattle.paxidore_calls.specs.Answer.{GivesCode, all_shown, are_indexes, done_code, leaves_for, refusal_code, refused_of, refusing, results_of, shown, verdict_code}
+use Rattle.paxidore_calls.proofs.Answering.{refusal-no, zero-says}
+use Rattle.paxidore_calls.specs.Hashing.{Hashing, hashes_by, hashes_of, read_path, read_multi_path}
+use Rattle.paxidore_calls.specs.declared.refused.Refused.{Refused}
+use Rattle.paxidore_calls.specs.declared.refused.Refused.TheVariants.{Memory, Truncated, Invalid, Height, Size, Lengths, Count, Index, Room, Hidden, Other}
 
 -- a call that answers 0 in 32 bits answers 0
 pub done-zero : {A : Type 0} (outcome : Result A Refused) (code : ℤ) → GivesCode (done_code outcome) code → to_z w32

@@ -1,10 +1,10 @@
 -- What codes tell of hashes.
 use Rattle.std.proofs.Common.{◌≡◌, ◌⊎◌, inl, inr, ℤ, pos, ℕ, nat_lt, Bool, true, false, if◌then◌else◌, List, length, w32, to_z, of_z, Result, Ok, Err, IfErr, IfOk, refl, ap, ◌∙◌}
 use Rattle.paxidore_c.proofs.Codes.{verdict-fits}
-use Rattle.paxidore_c.proofs.Written.{seen}
-use Rattle.paxidore_c.specs.Answer.{GivesCode, Hands, done_code, refusal_code}
-use Rattle.paxidore_c.specs.declared.refused.Refused.{Refused}
-use Rattle.paxidore_c.specs.declared.refused.Refused.TheVariants.{Memory, Room}
+use Rattle.paxidore_calls.proofs.Written.{seen}
+use Rattle.paxidore_calls.specs.Answer.{GivesCode, Hands, done_code, refusal_code}
+use Rattle.paxidore_calls.specs.declared.refused.Refused.{Refused}
+use Rattle.paxidore_calls.specs.declared.refused.Refused.TheVariants.{Memory, Room}
 
 -- the code of a refusal
 pub refused-gives : {A : Type 0} (outcome : Result A Refused) (refused : Refused) (code : ℤ)

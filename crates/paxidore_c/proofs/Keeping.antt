@@ -15,12 +15,12 @@ use Rattle.kept_tree.specs.KeptTree.{KeepsTree, kept_multi_way, kept_way, leaf_c
 use Rattle.kept_tree.proofs.HeldTrees.{held-path}
 use Rattle.kept_tree.proofs.Lengths.{held-count, held-length}
 use Rattle.kept_tree.proofs.MultiPaths.{held-multi}
-use Rattle.paxidore_c.specs.Answer.{are_indexes, leaves_in, only_if, tree_leaves_in}
-use Rattle.paxidore_c.specs.Cut.{parts_by}
-use Rattle.paxidore_c.specs.Hashing.{Hashing, bytes_of_multi_path, bytes_of_path, hashes_of}
+use Rattle.paxidore_calls.specs.Answer.{are_indexes, leaves_in, only_if, tree_leaves_in}
+use Rattle.paxidore_calls.specs.Cut.{parts_by}
+use Rattle.paxidore_calls.specs.Hashing.{Hashing, bytes_of_multi_path, bytes_of_path, hashes_of}
 use Rattle.paxidore_c.specs.KeptAnswer.{kept_index, kept_multi_path, kept_path, multi_path_of_digests, path_of_digests}
-use Rattle.paxidore_c.specs.declared.refused.Refused.{Refused}
-use Rattle.paxidore_c.specs.declared.refused.Refused.TheVariants.{Index}
+use Rattle.paxidore_calls.specs.declared.refused.Refused.{Refused}
+use Rattle.paxidore_calls.specs.declared.refused.Refused.TheVariants.{Index}
 
 -- ---- paths
 

@@ -5,10 +5,10 @@ use Rattle.circom_logs.specs.Nodes.{refusal_error}
 use Rattle.circom_logs.specs.declared.refusal.NodeRefusal.{NodeRefusal}
 use Rattle.circom_logs.specs.declared.refusal.NodeRefusal.TheVariants.{Element, Memory as NoMemory}
 use Rattle.paxidore_c.proofs.TwoInputs.{Refuses}
-use Rattle.paxidore_c.specs.Answer.{refused_of}
+use Rattle.paxidore_calls.specs.Answer.{refused_of}
 use Rattle.paxidore_c.specs.PoseidonLog.{OrInvalid}
-use Rattle.paxidore_c.specs.declared.refused.Refused.{Refused}
-use Rattle.paxidore_c.specs.declared.refused.Refused.TheVariants.{Invalid}
+use Rattle.paxidore_calls.specs.declared.refused.Refused.{Refused}
+use Rattle.paxidore_calls.specs.declared.refused.Refused.TheVariants.{Invalid}
 
 -- a refusal of a log, where what is given is handed on
 pub any-refused : {A : Type 0} (handed : Result A Refused → Result A Refused)

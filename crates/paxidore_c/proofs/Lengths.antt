@@ -14,13 +14,13 @@ use Rattle.ark_paths.specs.Root.{place}
 use Rattle.ark_paths.specs.Tree.{halves_beside, path_in, root_digest}
 use Rattle.ark_paths.proofs.Logs.{log2-pow}
 use Rattle.ark_paths.proofs.PlaceLemmas.{neighbour-inside}
-use Rattle.paxidore_c.specs.Answer.{GivesCode, Hands, only_if, path_of_leaves, refusal_code, tree_leaves_in, written_code}
-use Rattle.paxidore_c.specs.Hashing.{Hashing, bytes_of_path, node_pair, tree_over}
-use Rattle.paxidore_c.specs.declared.refused.Refused.{Refused}
-use Rattle.paxidore_c.specs.declared.refused.Refused.TheVariants.{Index, Memory, Room}
-use Rattle.paxidore_c.proofs.Answering.{refusal-no}
-use Rattle.paxidore_c.proofs.Parts.{leaves-fit}
-use Rattle.paxidore_c.proofs.TreeLemmas.{place-node}
+use Rattle.paxidore_calls.specs.Answer.{GivesCode, Hands, only_if, path_of_leaves, refusal_code, tree_leaves_in, written_code}
+use Rattle.paxidore_calls.specs.Hashing.{Hashing, bytes_of_path, node_pair, tree_over}
+use Rattle.paxidore_calls.specs.declared.refused.Refused.{Refused}
+use Rattle.paxidore_calls.specs.declared.refused.Refused.TheVariants.{Index, Memory, Room}
+use Rattle.paxidore_calls.proofs.Answering.{refusal-no}
+use Rattle.paxidore_calls.proofs.Parts.{leaves-fit}
+use Rattle.paxidore_calls.proofs.TreeLemmas.{place-node}
 
 -- a path of a tree of this size
 abbrev pub path_bytes : ℕ → ℕ

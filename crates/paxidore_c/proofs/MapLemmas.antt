@@ -11,9 +11,9 @@ use Rattle.merkle_map.specs.Sha256.{sha256_map}
 use Rattle.merkle_map.specs.Transition.{ChangeSeen, LeadsOn, LeadsTo}
 use Rattle.merkle_map.specs.Tree.{Shape, shape_digest}
 use Rattle.merkle_map.proofs.ProofReading.{reads-proof-back}
-use Rattle.paxidore_c.specs.Answer.{CallGivesBy}
+use Rattle.paxidore_calls.specs.Answer.{CallGivesBy}
 use Rattle.paxidore_c.specs.Maps.{refusing_map, IsProvedBy}
-use Rattle.paxidore_c.specs.declared.refused.Refused.{Refused}
+use Rattle.paxidore_calls.specs.declared.refused.Refused.{Refused}
 
 -- what is shown of a proof that was read is shown of the bytes
 pub shown-read : (read : Outcome ProofSeen) (proof : ProofSeen) (P : ProofSeen → Type 0) (result : Outcome Bool)

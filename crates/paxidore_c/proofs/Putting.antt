@@ -5,8 +5,8 @@ use Rattle.std.specs.List.{zip}
 use Rattle.std.specs.Option.{option_map}
 use Rattle.ark_paths.specs.Pair.{Digest}
 use Rattle.ark_merkle.specs.Batch.{puts}
-use Rattle.paxidore_c.proofs.Cutting.{IsSoFar, so_far-more, so_far-none}
-use Rattle.paxidore_c.specs.Cut.{parts_by}
+use Rattle.paxidore_calls.proofs.Cutting.{IsSoFar, so_far-more, so_far-none}
+use Rattle.paxidore_calls.specs.Cut.{parts_by}
 
 -- one more change behind others
 puts-more : (digests : List Digest) (indexes : List ℕ) (front : List Digest) (digest : Digest)

@@ -8,11 +8,11 @@ use Rattle.ark_base.specs.Digits.{itself}
 use Rattle.ark_base.specs.Outcome.{Outcome, ◌>>=◌}
 use Rattle.ark_paths.specs.Pair.{Digest}
 use Rattle.paxidore_c.proofs.Codes.{verdict-fits}
-use Rattle.paxidore_c.specs.Answer.{GivesCode, CallGivesBy, refusal_code, refused_of, refusing, verdict_code}
-use Rattle.paxidore_c.specs.KeptLog.{bytes_of_digests}
+use Rattle.paxidore_calls.specs.Answer.{GivesCode, CallGivesBy, refusal_code, refused_of, refusing, verdict_code}
+use Rattle.paxidore_calls.specs.KeptLog.{bytes_of_digests}
 use Rattle.paxidore_c.specs.PoseidonLog.{if_two}
-use Rattle.paxidore_c.specs.declared.refused.Refused.{Refused}
-use Rattle.paxidore_c.specs.declared.refused.Refused.TheVariants.{Count, Memory}
+use Rattle.paxidore_calls.specs.declared.refused.Refused.{Refused}
+use Rattle.paxidore_calls.specs.declared.refused.Refused.TheVariants.{Count, Memory}
 
 -- The call refuses so, where this is to be given.
 abbrev pub Refuses : {A : Type 0} → Result A Refused → Refused → Type 0

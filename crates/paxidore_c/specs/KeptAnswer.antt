@@ -6,11 +6,11 @@ use Rattle.ark_paths.specs.Index.{is_tree_size}
 use Rattle.ark_paths.specs.Pair.{Digest}
 use Rattle.ark_paths.specs.Tree.{path_in, tree_with}
 use Rattle.kept_tree.specs.KeptTree.{is_tree_length, kept_multi_way, kept_way, leaf_count}
-use Rattle.paxidore_c.specs.Answer.{are_indexes, leaves_in, only_if}
-use Rattle.paxidore_c.specs.Cut.{parts_by}
-use Rattle.paxidore_c.specs.Hashing.{Hashing, bytes_of_multi_path, bytes_of_path, hashes_of}
-use Rattle.paxidore_c.specs.declared.refused.Refused.{Refused}
-use Rattle.paxidore_c.specs.declared.refused.Refused.TheVariants.{Count, Index, Size}
+use Rattle.paxidore_calls.specs.Answer.{are_indexes, leaves_in, only_if}
+use Rattle.paxidore_calls.specs.Cut.{parts_by}
+use Rattle.paxidore_calls.specs.Hashing.{Hashing, bytes_of_multi_path, bytes_of_path, hashes_of}
+use Rattle.paxidore_calls.specs.declared.refused.Refused.{Refused}
+use Rattle.paxidore_calls.specs.declared.refused.Refused.TheVariants.{Count, Index, Size}
 
 -- the digest that stands first, where a tree has as many digests as memory
 abbrev pub kept_root : List Digest → Result Digest Refused

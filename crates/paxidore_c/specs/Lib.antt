@@ -1,16 +1,4 @@
-pub mod Answer
-pub mod Blocks
-pub mod Cut
-pub mod Forms
-pub mod Hashing
 pub mod KeptAnswer
-pub mod KeptLog
-pub mod Laws
-pub mod Layouts
-pub mod LogFiles
-pub mod LogProofs
 pub mod Maps
-pub mod Plan
 pub mod Poseidon
 pub mod PoseidonLog
-pub mod Transcript

@@ -13,9 +13,9 @@ use Rattle.merkle_map.specs.Sha256.{sha256_map}
 use Rattle.merkle_map.specs.Transition.{ChangeSeen, Puts, Removes, changed_tree}
 use Rattle.merkle_map.specs.Tree.{Shape, shape_digest, IsWhole, Shows}
 use Rattle.merkle_map.specs.Whole.{entries_of}
-use Rattle.paxidore_c.specs.Answer.{only_if, refusal_code, refused_of}
-use Rattle.paxidore_c.specs.declared.refused.Refused.{Refused}
-use Rattle.paxidore_c.specs.declared.refused.Refused.TheVariants.{Memory, Height, Count, Room, Hidden, Other}
+use Rattle.paxidore_calls.specs.Answer.{only_if, refusal_code, refused_of}
+use Rattle.paxidore_calls.specs.declared.refused.Refused.{Refused}
+use Rattle.paxidore_calls.specs.declared.refused.Refused.TheVariants.{Memory, Height, Count, Room, Hidden, Other}
 
 -- ---- refusals
 

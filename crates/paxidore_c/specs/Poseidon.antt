@@ -8,9 +8,9 @@ use Rattle.ark_sponge.specs.Permutation.{Parameters}
 use Rattle.circom_bytes.specs.declared.elements.ByteOrder.{ByteOrder}
 use Rattle.circom_bytes.specs.declared.elements.ByteOrder.TheVariants.{LittleEndian, BigEndian}
 use Rattle.circom_bytes.specs.Hash.{SpellsTable, hash_outcome}
-use Rattle.paxidore_c.specs.Answer.{refused_of}
-use Rattle.paxidore_c.specs.declared.refused.Refused.{Refused}
-use Rattle.paxidore_c.specs.declared.refused.Refused.TheVariants.{Count, Invalid}
+use Rattle.paxidore_calls.specs.Answer.{refused_of}
+use Rattle.paxidore_calls.specs.declared.refused.Refused.{Refused}
+use Rattle.paxidore_calls.specs.declared.refused.Refused.TheVariants.{Count, Invalid}
 
 -- The bytes are the table of circomlib's hash of so many inputs.
 abbrev pub IsCircomTable : ℕ → List ℕ → Type 0

@@ -9,11 +9,11 @@ use Rattle.circom_logs.specs.Nodes.{element_hashes}
 use Rattle.merkle_log.specs.Edge.{all_of}
 use Rattle.merkle_log.specs.Log.{inclusion_path, merkle_tree_hash}
 use Rattle.merkle_log.specs.Received.{inclusion_length, received_inclusion}
-use Rattle.paxidore_c.specs.Answer.{only_if, refusing}
-use Rattle.paxidore_c.specs.KeptLog.{bytes_of_digests, if_kept, more_count, takes}
-use Rattle.paxidore_c.specs.LogProofs.{proof_digests}
-use Rattle.paxidore_c.specs.declared.refused.Refused.{Refused}
-use Rattle.paxidore_c.specs.declared.refused.Refused.TheVariants.{Count, Index, Invalid, Room, Size}
+use Rattle.paxidore_calls.specs.Answer.{only_if, refusing}
+use Rattle.paxidore_calls.specs.KeptLog.{bytes_of_digests, if_kept, more_count, takes}
+use Rattle.paxidore_calls.specs.LogProofs.{proof_digests}
+use Rattle.paxidore_calls.specs.declared.refused.Refused.{Refused}
+use Rattle.paxidore_calls.specs.declared.refused.Refused.TheVariants.{Count, Index, Invalid, Room, Size}
 
 -- goes on where a table is of two inputs
 abbrev pub if_two : {A : Type 0} → ℕ → Result A Refused → Result A Refused

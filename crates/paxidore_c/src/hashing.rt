@@ -6,7 +6,7 @@ macro_rules! in_hashing {
         match $hashing {
             1 => $call::<ark_crh::PlainSha256>($($argument),+),
             2 => $call::<ark_trees::LogHasher>($($argument),+),
-            _ => $crate::refused::Refused::Invalid.code(),
+            _ => paxidore_calls::refused::Refused::Invalid.code(),
         }
     };
 }

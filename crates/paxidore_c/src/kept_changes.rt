@@ -5,16 +5,16 @@ ghost use Rattle.std.specs.Prelude.{◌≡◌, ◌≢◌, ◌<◌, ◌+◌, ◌/
 ghost use Rattle.ark_merkle.specs.Batch.{puts};
 ghost use Rattle.ark_paths.specs.Pair.{Digest};
 ghost use Rattle.kept_tree.specs.KeptTree.{ChangesLeaves, KeepsTree, is_tree_length, kept_leaves};
-ghost use Rattle.paxidore_c.specs.Answer.{done_code, hashing_of, in_hashing};
-ghost use Rattle.paxidore_c.specs.Cut.{parts_by};
+ghost use Rattle.paxidore_calls.specs.Answer.{done_code, hashing_of, in_hashing};
+ghost use Rattle.paxidore_calls.specs.Cut.{parts_by};
 ghost use Rattle.paxidore_c.specs.KeptAnswer.{leaves_to_change};
 
 use crate::hashing::in_hashing;
-use crate::leaves::{are_indexes, are_parts, next_leaf};
-use crate::refused::Refused;
 use ark_crh::ArrayHash;
 use kept_tree::check::is_tree_length;
 use kept_tree::many::rehash_above;
+use paxidore_calls::leaves::{are_indexes, are_parts, next_leaf};
+use paxidore_calls::refused::Refused;
 
 // Writes the digests of leaves to the places of their indexes, one after the other.
 fn put_leaf_digests<H: ArrayHash>(

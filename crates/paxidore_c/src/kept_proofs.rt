@@ -3,15 +3,15 @@
 ghost use Rattle.std.specs.Prelude.{◌≡◌, List};
 ghost use Rattle.ark_paths.specs.Pair.{Digest};
 ghost use Rattle.kept_tree.specs.KeptTree.{KeepsTree};
-ghost use Rattle.paxidore_c.specs.Answer.{CallGivesBy, Hands};
-ghost use Rattle.paxidore_c.specs.Hashing.{Hashing};
+ghost use Rattle.paxidore_calls.specs.Answer.{CallGivesBy, Hands};
+ghost use Rattle.paxidore_calls.specs.Hashing.{Hashing};
 ghost use Rattle.paxidore_c.specs.KeptAnswer.{kept_multi_path, multi_path_of_digests};
 
-use crate::buffer::hand_over;
-use crate::leaves::are_indexes;
-use crate::refused::Refused;
 use kept_tree::check::is_tree_length;
 use kept_tree::multi_path::multi_path_bytes;
+use paxidore_calls::buffer::hand_over;
+use paxidore_calls::leaves::are_indexes;
+use paxidore_calls::refused::Refused;
 use std::alloc::Global;
 
 // The bytes of the multi-proof of some indexes, as it stands in memory.

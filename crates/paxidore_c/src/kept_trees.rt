@@ -7,21 +7,21 @@ ghost use Rattle.ark_paths.specs.Index.{log2};
 ghost use Rattle.ark_paths.specs.Pair.{Digest};
 ghost use Rattle.ark_paths.specs.Tree.{root_in, tree_with};
 ghost use Rattle.kept_tree.specs.KeptTree.{ChangesLeaf, KeepsTree, is_tree_length, kept_leaves, leaf_count};
-ghost use Rattle.paxidore_c.specs.Answer.{Hands, done_code, hashing_of, in_hashing, refusal_code, tree_leaves_in, verdict_code};
-ghost use Rattle.paxidore_c.specs.Cut.{parts_by};
-ghost use Rattle.paxidore_c.specs.Hashing.{Hashing, hashes_of};
+ghost use Rattle.paxidore_calls.specs.Answer.{Hands, done_code, hashing_of, in_hashing, refusal_code, tree_leaves_in, verdict_code};
+ghost use Rattle.paxidore_calls.specs.Cut.{parts_by};
+ghost use Rattle.paxidore_calls.specs.Hashing.{Hashing, hashes_of};
 ghost use Rattle.paxidore_c.specs.KeptAnswer.{kept_check, kept_index, kept_path, kept_root, leaves_to_keep, path_of_digests};
-ghost use Rattle.paxidore_c.specs.declared.refused.Refused.TheVariants.{Memory};
+ghost use Rattle.paxidore_calls.specs.declared.refused.Refused.TheVariants.{Memory};
 
 use crate::hashing::in_hashing;
-use crate::leaves::{are_parts, write_leaf_digests};
-use crate::refused::Refused;
 use ark_crh::ArrayHash;
 use ark_paths::is_tree_size;
 use kept_tree::build::rebuild;
 use kept_tree::change::set_leaf;
 use kept_tree::check::{holds_tree, is_tree_length};
 use kept_tree::path::write_path;
+use paxidore_calls::leaves::{are_parts, write_leaf_digests};
+use paxidore_calls::refused::Refused;
 
 // Writes the digests of leaves to the last places of memory for their tree.
 fn write_leaves<H: ArrayHash>(tree: &mut [[u8; 32]], bytes: &[u8], lengths: &[usize])

@@ -6,21 +6,17 @@
 #![tactic(auto)]
 
 pub mod blake2s;
-mod buffer;
 pub mod file_calls;
 mod hashing;
 pub mod kept_changes;
 pub mod kept_proofs;
 pub mod kept_trees;
-mod leaves;
 pub mod log;
 pub mod log_keeper;
 pub mod map;
 pub mod poseidon;
 pub mod poseidon_log;
 pub mod poseidon_log_kept;
-mod refused;
-mod roots;
 pub mod sha256;
 pub mod signatures;
 pub mod transcript;

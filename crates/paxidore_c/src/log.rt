@@ -3,13 +3,13 @@
 ghost use Rattle.std.specs.Prelude.{◌≡◌, pos};
 ghost use Rattle.ark_trees.specs.Rfc6962.{log_hashes, node_of};
 ghost use Rattle.merkle_log.specs.Received.{ShowsFront, ShowsLogLeaf, consistency_length, inclusion_length};
-ghost use Rattle.paxidore_c.specs.Answer.{GivesCode, refusing, verdict_code};
-ghost use Rattle.paxidore_c.specs.LogProofs.{continuing_shown, entry_shown, proof_digests};
-ghost use Rattle.paxidore_c.specs.declared.refused.Refused.TheVariants.{Index, Size};
+ghost use Rattle.paxidore_calls.specs.Answer.{GivesCode, refusing, verdict_code};
+ghost use Rattle.paxidore_calls.specs.LogProofs.{continuing_shown, entry_shown, proof_digests};
+ghost use Rattle.paxidore_calls.specs.declared.refused.Refused.TheVariants.{Index, Size};
 
-use crate::refused::{Refused, verdict_code};
 use ark_trees::LogHasher;
 use merkle_log::{verify_consistency_bytes, verify_inclusion_bytes};
+use paxidore_calls::refused::{Refused, verdict_code};
 use std::alloc::Global;
 
 /// Returns whether the bytes of a path show an entry at an index of a log with this root and size.

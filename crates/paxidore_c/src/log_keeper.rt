@@ -12,14 +12,11 @@ ghost use Rattle.ark_trees.specs.Rfc6962.{entry_hash, node_of};
 ghost use Rattle.merkle_log.specs.Kept.{front, has_front, Keeps};
 ghost use Rattle.merkle_log.specs.Received.{ShowsLogLeaf, consistency_length, inclusion_length};
 ghost use Rattle.merkle_log.specs.Stored.{row_at, stored_count};
-ghost use Rattle.paxidore_c.specs.Answer.{GivesCode, CallGivesBy, Hands, done_code, refusal_code, verdict_code};
-ghost use Rattle.paxidore_c.specs.KeptLog.{appended, consistency_bytes, digest_hashes, digest_shown, if_inside, if_kept, if_older, inclusion_bytes, kept_code, log_root, more_count, takes};
-ghost use Rattle.paxidore_c.specs.LogProofs.{proof_digests};
-ghost use Rattle.paxidore_c.specs.declared.refused.Refused.TheVariants.{Memory, Room, Size};
+ghost use Rattle.paxidore_calls.specs.Answer.{GivesCode, CallGivesBy, Hands, done_code, refusal_code, verdict_code};
+ghost use Rattle.paxidore_calls.specs.KeptLog.{appended, consistency_bytes, digest_hashes, digest_shown, if_inside, if_kept, if_older, inclusion_bytes, kept_code, log_root, more_count, takes};
+ghost use Rattle.paxidore_calls.specs.LogProofs.{proof_digests};
+ghost use Rattle.paxidore_calls.specs.declared.refused.Refused.TheVariants.{Memory, Room, Size};
 
-use crate::buffer::hand_over_digests;
-use crate::leaves::digests_of_leaves;
-use crate::refused::{Refused, verdict_code};
 use ark_base::error::Error;
 use ark_base::serialize::CanonicalItem;
 use ark_paths::hasher::TreeHasher;
@@ -27,6 +24,9 @@ use ark_trees::LogHasher;
 use merkle_log::kept::{Kept, is_size, stored_count};
 use merkle_log::path_lengths::{consistency_length, inclusion_length};
 use merkle_log::verify_inclusion_bytes;
+use paxidore_calls::buffer::hand_over_digests;
+use paxidore_calls::leaves::digests_of_leaves;
+use paxidore_calls::refused::{Refused, verdict_code};
 use std::alloc::Global;
 
 /// Returns how many digests a log of this size has stored; 0 for a size of 2^63 and above.
@@ -56,15 +56,6 @@ pub extern "C" fn paxidore_log_root(root: &mut [u8; 32], kept: &[[u8; 32]], size
         }
         None => Refused::Size.code(),
     }
-}
-
-// The bytes of digests, one behind the other.
-pub(crate) fn bytes_of_path(alloc: Global, digests: &[[u8; 32]]) -> Result<Vec<u8>, Refused>
-    ensures { CallGivesBy (λ bytes. bytes.items) (Ok (flat_map itself digests.now)) result }
-{
-    let mut bytes = Vec::new(alloc);
-    <[u8; 32]>::serialize_items(digests, &mut bytes)?;
-    Ok(bytes)
 }
 
 // Writes the bytes of the path of an index, by way of its digests.

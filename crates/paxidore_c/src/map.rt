@@ -12,14 +12,14 @@ ghost use Rattle.merkle_map.specs.Sha256.{sha256_map};
 ghost use Rattle.merkle_map.specs.Transition.{change_seen, LeadsTo};
 ghost use Rattle.merkle_map.specs.Tree.{shape_digest, Shows};
 ghost use Rattle.merkle_map.specs.Whole.{IsRootOf};
-ghost use Rattle.paxidore_c.specs.Answer.{done_code, refusal_code, refusing, verdict_code, GivesCode, CallGivesBy, Hands};
+ghost use Rattle.paxidore_calls.specs.Answer.{done_code, refusal_code, refusing, verdict_code, GivesCode, CallGivesBy, Hands};
 ghost use Rattle.paxidore_c.specs.Maps.{changed_code, changes_of as changes_by, key_proof_in, key_verdict, map_changed, map_proof, map_refused, map_root as root_in, refusing_map, rows_found, tree_changed, IfMade, IsProvedBy, IsRootOfAll, IsRootOfStore};
-ghost use Rattle.paxidore_c.specs.declared.refused.Refused.TheVariants.{Room};
+ghost use Rattle.paxidore_calls.specs.declared.refused.Refused.TheVariants.{Room};
 
-use crate::buffer::hand_over;
-use crate::refused::{Refused, verdict_code};
 use ark_base::error::Error;
 use merkle_map::{Change, KeyProof, MapTree, Sha256Map, change_from};
+use paxidore_calls::buffer::hand_over;
+use paxidore_calls::refused::{Refused, verdict_code};
 use std::alloc::Global;
 
 // The refusal that an error of a call on maps is.

@@ -7,33 +7,21 @@ ghost use Rattle.std.specs.Prelude.{◌≡◌, ◌≢◌, ◌⊎◌, ◌<◌, �
 ghost use Rattle.std.specs.List.{list_all};
 ghost use Rattle.ark_sponge.specs.Permutation.{Parameters};
 ghost use Rattle.circom_bytes.specs.Hash.{IsTableOf, SpellsTable, is_element, node_outcome};
-ghost use Rattle.circom_logs.specs.Nodes.{element_hashes, refusal_error};
+ghost use Rattle.circom_logs.specs.Nodes.{element_hashes};
 ghost use Rattle.merkle_log.specs.Log.{merkle_tree_hash};
 ghost use Rattle.merkle_log.specs.Received.{ShowsLogLeaf, inclusion_length};
-ghost use Rattle.paxidore_c.specs.Answer.{GivesCode, CallGivesBy, Hands, done_code, refused_of, verdict_code};
-ghost use Rattle.paxidore_c.specs.LogProofs.{proof_digests};
+ghost use Rattle.paxidore_calls.specs.Answer.{GivesCode, CallGivesBy, Hands, done_code, refused_of, verdict_code};
+ghost use Rattle.paxidore_calls.specs.LogProofs.{proof_digests};
 ghost use Rattle.paxidore_c.specs.PoseidonLog.{element_shown, elements_given, elements_path, elements_root, if_two, is_log_size, element_verdict};
-ghost use Rattle.paxidore_c.specs.declared.refused.Refused.TheVariants.{Count, Memory, Room};
+ghost use Rattle.paxidore_calls.specs.declared.refused.Refused.TheVariants.{Count, Memory, Room};
 
-use crate::buffer::hand_over;
-use crate::log_keeper::bytes_of_path;
-use crate::refused::{Refused, verdict_code};
 use circom_bytes::CircomTable;
-use circom_logs::{CircomNodes, NodeRefusal, are_elements};
+use circom_logs::{CircomNodes, are_elements};
 use merkle_log::kept::is_size;
 use merkle_log::verify_inclusion_bytes;
+use paxidore_calls::buffer::{bytes_of_path, hand_over};
+use paxidore_calls::refused::{Refused, verdict_code};
 use std::alloc::Global;
-
-impl From<NodeRefusal> for Refused {
-    ghost from_gives = { λ refusal refused. refused ≡ refused_of (refusal_error refusal) };
-
-    fn from(refusal: NodeRefusal) -> Refused {
-        match refusal {
-            NodeRefusal::Element => Refused::Invalid,
-            NodeRefusal::Memory => Refused::Memory,
-        }
-    }
-}
 
 /// Returns the table of two inputs that bytes are.
 pub(crate) fn table_of_two(alloc: Global, bytes: &[u8]) -> Result<CircomTable, Refused>

@@ -8,19 +8,19 @@ ghost use Rattle.circom_bytes.specs.Hash.{IsTableOf, SpellsTable, is_element, no
 ghost use Rattle.merkle_log.specs.Kept.{KeepsBy};
 ghost use Rattle.merkle_log.specs.Log.{merkle_tree_hash};
 ghost use Rattle.merkle_log.specs.Stored.{stored_count};
-ghost use Rattle.paxidore_c.specs.Answer.{GivesCode, CallGivesBy, Hands, done_code, refusal_code};
-ghost use Rattle.paxidore_c.specs.KeptLog.{more_count};
+ghost use Rattle.paxidore_calls.specs.Answer.{GivesCode, CallGivesBy, Hands, done_code, refusal_code};
+ghost use Rattle.paxidore_calls.specs.KeptLog.{more_count};
 ghost use Rattle.paxidore_c.specs.PoseidonLog.{OrInvalid, appended_by, elements_appended, kept_path_given, kept_root_given, path_of_elements, root_of_elements};
-ghost use Rattle.paxidore_c.specs.declared.refused.Refused.TheVariants.{Room};
-ghost use Rattle.paxidore_c.specs.declared.refused.Refused.{Refused};
+ghost use Rattle.paxidore_calls.specs.declared.refused.Refused.TheVariants.{Room};
+ghost use Rattle.paxidore_calls.specs.declared.refused.Refused.{Refused};
 
-use crate::buffer::hand_over;
-use crate::log_keeper::{bytes_of_path, more_count};
+use crate::log_keeper::more_count;
 use crate::poseidon_log::table_of_two;
-use crate::refused::Refused;
 use circom_bytes::CircomTable;
 use circom_logs::are_elements;
 use merkle_log::kept::Kept;
+use paxidore_calls::buffer::{bytes_of_path, hand_over};
+use paxidore_calls::refused::Refused;
 use std::alloc::Global;
 
 // The root of the first elements of a kept log.

@@ -3,31 +3,24 @@
 
 ghost use Rattle.std.specs.Prelude.{◌≡◌, ◌≢◌, ◌⊎◌, ◌≤◌, ◌++◌, ℕ, ◌+◌, List, length, drop, pos, Result, Ok, Err, IfErr, IfOk, IfSome, IsSome};
 ghost use Rattle.ark_sponge.specs.ConfigBytes.{parameters_spelling};
-ghost use Rattle.paxidore_c.specs.Answer.{GivesCode, CallGivesBy, Hands, refusal_code};
-ghost use Rattle.paxidore_c.specs.declared.refused.Refused.{Refused as Why};
-ghost use Rattle.paxidore_c.specs.declared.refused.Refused.TheVariants.{Count, Invalid, Memory, Room};
-ghost use Rattle.paxidore_c.specs.Transcript.{HasReady, IsReadyField, Replaces, ServeAs, SpellReady, begun, bytes_given, element_bytes_squeezed, in_field, left_by, field_power, prepared_bytes, with_bytes, with_elements};
+ghost use Rattle.paxidore_calls.specs.Answer.{GivesCode, CallGivesBy, Hands, refusal_code};
+ghost use Rattle.paxidore_calls.specs.declared.refused.Refused.{Refused as Why};
+ghost use Rattle.paxidore_calls.specs.declared.refused.Refused.TheVariants.{Count, Invalid, Memory, Room};
+ghost use Rattle.paxidore_calls.specs.Transcript.{HasReady, IsReadyField, Replaces, ServeAs, SpellReady, begun, bytes_given, element_bytes_squeezed, in_field, left_by, field_power, prepared_bytes, with_bytes, with_elements};
 
-mod forms;
-mod items;
-mod parameters;
-mod reading;
-mod steps;
-mod writing;
-
-use crate::buffer::hand_over;
-use crate::refused::Refused;
-use crate::transcript::forms::{Kept, Own};
-use crate::transcript::parameters::prepared_bytes;
-use crate::transcript::steps::{
-    Given, begun, bytes_given, elements_squeezed, with_bytes, with_elements,
-};
-use crate::transcript::writing::write_over;
 use ark_base::serialize::canonical_bytes;
 use ark_groups::ff::{BabyBear, Field, Fp, Goldilocks};
 use ark_poseidon_parameters::{Power, bls12_381_fr, bn254_fr};
 use ark_sponge::poseidon::PoseidonConfig;
 use ark_wide_fields::{Bls12_381Fr, Bn254Fr};
+use paxidore_calls::buffer::hand_over;
+use paxidore_calls::refused::Refused;
+use paxidore_calls::transcript::forms::{Kept, Own};
+use paxidore_calls::transcript::parameters::prepared_bytes;
+use paxidore_calls::transcript::steps::{
+    Given, begun, bytes_given, elements_squeezed, with_bytes, with_elements,
+};
+use paxidore_calls::transcript::writing::write_over;
 use std::alloc::Global;
 
 // Calls a function over the field that a number names, with parameters as they stand in their bytes under this number;

@@ -6,18 +6,18 @@ ghost use Rattle.ark_paths.specs.Index.{log2};
 ghost use Rattle.ark_paths.specs.Received.{ShowsLeaf, ShowsLeaves};
 ghost use Rattle.ark_paths.specs.Tree.{root_in};
 ghost use Rattle.ark_trees.specs.Rfc6962.{tree_hash_of_entries};
-ghost use Rattle.paxidore_c.specs.Answer.{GivesCode, CallGivesBy, Hands, all_shown, done_code, hashing_of, in_hashing, leaves_for, multi_path_of_leaves, path_of_leaves, results_of, shown, tree_leaves_in, verdict_code};
-ghost use Rattle.paxidore_c.specs.Hashing.{hashes_of, hashing_by, read_multi_path, read_path, tree_over};
+ghost use Rattle.paxidore_calls.specs.Answer.{GivesCode, CallGivesBy, Hands, all_shown, done_code, hashing_of, in_hashing, leaves_for, multi_path_of_leaves, path_of_leaves, results_of, shown, tree_leaves_in, verdict_code};
+ghost use Rattle.paxidore_calls.specs.Hashing.{hashes_of, hashing_by, read_multi_path, read_path, tree_over};
 
-use crate::buffer::hand_over;
 use crate::hashing::in_hashing;
-use crate::leaves::{are_indexes, digests_of_leaves, leaves_for};
-use crate::refused::{Refused, verdict_code};
-use crate::roots::root_over_leaves;
 use ark_base::serialize::canonical_bytes;
 use ark_crh::ArrayHash;
 use ark_merkle::{MerkleTree, MultiPath, Path, is_tree_size};
 use ark_trees::Arrays;
+use paxidore_calls::buffer::hand_over;
+use paxidore_calls::leaves::{are_indexes, digests_of_leaves, leaves_for};
+use paxidore_calls::refused::{Refused, verdict_code};
+use paxidore_calls::roots::root_over_leaves;
 use std::alloc::Global;
 
 // Returns the code of whether the bytes of a path show a leaf at an index of a tree with this root and size.

@@ -3,19 +3,19 @@
 ghost use Rattle.std.specs.Prelude.{◌≡◌, ◌≢◌, ◌<◌, List, ℕ, length, pos, negsuc, IfErr, IfOk, OnOk, Err, Some};
 ghost use Rattle.ark_paths.specs.Pair.{Digest};
 ghost use Rattle.log_store.specs.Refused.{index_outcome, older_outcome};
-ghost use Rattle.paxidore_c.specs.Answer.{refusal_code};
-ghost use Rattle.paxidore_c.specs.KeptLog.{consistency_bytes, inclusion_bytes};
-ghost use Rattle.paxidore_c.specs.Layouts.{log_in, HasLog};
-ghost use Rattle.paxidore_c.specs.LogFiles.{AsksFirst, IsReason, StandsInFront, TellsWhy};
-ghost use Rattle.paxidore_c.specs.Plan.{HasRead};
-ghost use Rattle.paxidore_c.specs.declared.file_calls.not_done.NotDone.TheVariants.{More, Refusal};
-ghost use Rattle.paxidore_c.specs.declared.refused.Refused.TheVariants.{Room};
+ghost use Rattle.paxidore_calls.specs.Answer.{refusal_code};
+ghost use Rattle.paxidore_calls.specs.KeptLog.{consistency_bytes, inclusion_bytes};
+ghost use Rattle.paxidore_calls.specs.Layouts.{log_in, HasLog};
+ghost use Rattle.paxidore_calls.specs.LogFiles.{AsksFirst, IsReason, StandsInFront, TellsWhy};
+ghost use Rattle.paxidore_calls.specs.Plan.{HasRead};
+ghost use Rattle.paxidore_calls.specs.declared.file_calls.not_done.NotDone.TheVariants.{More, Refusal};
+ghost use Rattle.paxidore_calls.specs.declared.refused.Refused.TheVariants.{Room};
 
-use crate::file_calls::answers::{path_of, proof_of};
-use crate::file_calls::asked::{Asked, ask};
-use crate::file_calls::handed::hand_over_digests;
-use crate::file_calls::not_done::NotDone;
 use crate::file_calls::{Pieces, code_of};
+use paxidore_calls::file_calls::answers::{path_of, proof_of};
+use paxidore_calls::file_calls::asked::{Asked, ask};
+use paxidore_calls::file_calls::handed::hand_over_digests;
+use paxidore_calls::file_calls::not_done::NotDone;
 use std::alloc::Global;
 use std::marker::Brand;
 

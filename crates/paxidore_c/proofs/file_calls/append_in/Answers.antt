@@ -2,11 +2,11 @@ use Rattle.std.proofs.Common.{◌≡◌, ℕ, List, length, IfErr, subst, arith}
 use Rattle.std.proofs.lemmas.Bool.Decides.{nat_tests}
 use Rattle.std.proofs.lemmas.Result.{err_from_is_err_and}
 use Rattle.ark_paths.specs.Pair.{Digest}
-use Rattle.paxidore_c.specs.Layouts.{grown_size, log_in}
-use Rattle.paxidore_c.specs.LogFiles.{IsReason}
-use Rattle.paxidore_c.specs.Plan.{Grows}
-use Rattle.paxidore_c.proofs.KeptLogs.{entries-of}
-use Rattle.paxidore_c.proofs.LogCalls.{as-read, of-entries, size-refused}
+use Rattle.paxidore_calls.specs.Layouts.{grown_size, log_in}
+use Rattle.paxidore_calls.specs.LogFiles.{IsReason}
+use Rattle.paxidore_calls.specs.Plan.{Grows}
+use Rattle.paxidore_calls.proofs.KeptLogs.{entries-of}
+use Rattle.paxidore_calls.proofs.LogCalls.{as-read, of-entries, size-refused}
 use Rattle.paxidore_c.proofs.file_calls.append_in.Goals as goal
 
 pub returns-then-not-is_empty-clause-grows : goal.returns-then-not-is_empty-clause-grows

@@ -1,6 +1,6 @@
 use Rattle.std.proofs.Common.{w32}
 use Rattle.std.proofs.lemmas.Int.{to_z-of_z}
-use Rattle.paxidore_c.proofs.LogCalls.{tells, where-done}
+use Rattle.paxidore_calls.proofs.LogCalls.{tells, where-done}
 use Rattle.paxidore_c.proofs.file_calls.paxidore_log_file_size.Goals as goal
 
 pub returns-clause-size : goal.returns-clause-size

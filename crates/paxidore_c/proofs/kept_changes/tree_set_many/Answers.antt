@@ -3,9 +3,9 @@ use Rattle.std.specs.List.{zip}
 use Rattle.ark_merkle.specs.Batch.{puts}
 use Rattle.kept_tree.specs.KeptTree.{ChangesLeaves, KeepsTree, kept_leaves}
 use Rattle.kept_tree.proofs.LevelByLevel.{changes-both, changes-trees}
-use Rattle.paxidore_c.specs.Hashing.{hashing_by}
+use Rattle.paxidore_calls.specs.Hashing.{hashing_by}
 use Rattle.paxidore_c.proofs.Putting.{over-parts}
-use Rattle.paxidore_c.specs.Cut.{parts_by}
+use Rattle.paxidore_calls.specs.Cut.{parts_by}
 use Rattle.paxidore_c.proofs.kept_changes.tree_set_many.Goals as goal
 
 pub returns-clause-changes : goal.returns-clause-changes

@@ -1,7 +1,7 @@
 use Rattle.std.proofs.Common.{◌≡◌, List, ℕ, ℤ, Result, of_z, rules, subst, sym, to_z, w32}
-use Rattle.paxidore_c.specs.Answer.{Hands}
+use Rattle.paxidore_calls.specs.Answer.{Hands}
 use Rattle.paxidore_c.specs.KeptAnswer.{kept_multi_path, multi_path_of_digests}
-use Rattle.paxidore_c.specs.declared.refused.Refused.{Refused}
+use Rattle.paxidore_calls.specs.declared.refused.Refused.{Refused}
 use Rattle.paxidore_c.proofs.Keeping.{multi-path-held}
 use Rattle.paxidore_c.proofs.kept_proofs.paxidore_tree_multi_path.Goals as goal
 

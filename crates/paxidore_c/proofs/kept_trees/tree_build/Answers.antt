@@ -2,7 +2,7 @@ use Rattle.std.proofs.Common.{◌≡◌, length, true, sym, ◌∙◌, arith}
 use Rattle.ark_paths.specs.Index.{IsTreeSize}
 use Rattle.kept_tree.specs.KeptTree.{is_tree_length, kept_leaves}
 use Rattle.kept_tree.proofs.Lengths.{sized-length}
-use Rattle.paxidore_c.specs.Hashing.{hashing_by}
+use Rattle.paxidore_calls.specs.Hashing.{hashing_by}
 use Rattle.paxidore_c.proofs.Keeping.{held-leaves}
 use Rattle.paxidore_c.proofs.kept_trees.tree_build.Goals as goal
 

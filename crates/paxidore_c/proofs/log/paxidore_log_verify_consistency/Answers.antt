@@ -1,4 +1,4 @@
-use Rattle.paxidore_c.proofs.Answering.{zero-says}
+use Rattle.paxidore_calls.proofs.Answering.{zero-says}
 use Rattle.paxidore_c.proofs.log.paxidore_log_verify_consistency.Goals as goal
 
 pub returns-clause-shows : goal.returns-clause-shows

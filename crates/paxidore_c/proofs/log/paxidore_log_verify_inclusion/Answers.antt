@@ -1,8 +1,8 @@
 use Rattle.std.proofs.Common.{List, ℕ, subst}
 use Rattle.ark_trees.specs.Rfc6962.{log_hashes}
 use Rattle.merkle_log.specs.Received.{ShowsLogLeaf, inclusion_length}
-use Rattle.paxidore_c.specs.LogProofs.{proof_digests}
-use Rattle.paxidore_c.proofs.Answering.{zero-says}
+use Rattle.paxidore_calls.specs.LogProofs.{proof_digests}
+use Rattle.paxidore_calls.proofs.Answering.{zero-says}
 use Rattle.paxidore_c.proofs.log.paxidore_log_verify_inclusion.Goals as goal
 
 pub returns-clause-shows : goal.returns-clause-shows

@@ -1,6 +1,6 @@
 use Rattle.std.proofs.Common.{refl, w32}
 use Rattle.std.proofs.lemmas.Int.{to_z-of_z}
-use Rattle.paxidore_c.proofs.KeptLogs.{bytes-given, hands-given}
+use Rattle.paxidore_calls.proofs.KeptLogs.{bytes-given, hands-given}
 use Rattle.paxidore_c.proofs.log_keeper.hand_over_consistency.Goals as goal
 
 pub returns-clause-proof : goal.returns-clause-proof

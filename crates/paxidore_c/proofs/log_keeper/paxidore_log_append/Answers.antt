@@ -1,5 +1,5 @@
 use Rattle.std.proofs.Common.{length, ap, arith}
-use Rattle.paxidore_c.proofs.KeptLogs.{room-enough, more-is, entries-of, appended-all}
+use Rattle.paxidore_calls.proofs.KeptLogs.{room-enough, more-is, entries-of, appended-all}
 use Rattle.paxidore_c.proofs.log_keeper.paxidore_log_append.Goals as goal
 
 pub append_kept-requires-clause-room : goal.append_kept-requires-clause-room

@@ -2,7 +2,7 @@ use Rattle.std.proofs.Common.{◌≡◌, ◌≤◌, length, arith, sym, ap, ◌�
 use Rattle.std.proofs.lemmas.Grind.{common_steps}
 use Rattle.std.proofs.lemmas.Int.{to_z-of_z}
 use Rattle.merkle_log.specs.Received.{consistency_length}
-use Rattle.paxidore_c.proofs.KeptLogs.{all-older, consistency-fits, hands-given}
+use Rattle.paxidore_calls.proofs.KeptLogs.{all-older, consistency-fits, hands-given}
 use Rattle.paxidore_c.proofs.log_keeper.paxidore_log_consistency.Goals as goal
 
 pub slice_bounds-digests-end : goal.slice_bounds-digests-end

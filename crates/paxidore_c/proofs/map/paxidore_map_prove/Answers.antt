@@ -3,7 +3,7 @@ use Rattle.std.proofs.lemmas.Int.{to_z-of_z}
 use Rattle.merkle_map.specs.Bytes.{tree_of_bytes}
 use Rattle.paxidore_c.specs.Maps.{map_proof, IsProvedBy}
 use Rattle.paxidore_c.proofs.MapLemmas.{given-said}
-use Rattle.paxidore_c.proofs.Written.{gives-itself, handed, seen}
+use Rattle.paxidore_calls.proofs.Written.{gives-itself, handed, seen}
 use Rattle.paxidore_c.proofs.map.paxidore_map_prove.Goals as goal
 
 pub returns-clause-accepted : goal.returns-clause-accepted

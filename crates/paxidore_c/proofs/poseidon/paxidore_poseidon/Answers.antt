@@ -1,5 +1,5 @@
 use Rattle.std.proofs.Common.{inl, ap, sym}
-use Rattle.paxidore_c.specs.Answer.{done_code}
+use Rattle.paxidore_calls.specs.Answer.{done_code}
 use Rattle.paxidore_c.proofs.Hashed.{refused-gives}
 use Rattle.paxidore_c.proofs.poseidon.paxidore_poseidon.Goals as goal
 

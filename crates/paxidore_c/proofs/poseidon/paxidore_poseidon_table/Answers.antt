@@ -1,9 +1,9 @@
 use Rattle.std.proofs.Common.{w32}
 use Rattle.std.proofs.lemmas.Int.{to_z-of_z}
 use Rattle.paxidore_c.proofs.Hashed.{handed-codes, handed-none, said-of-seen}
-use Rattle.paxidore_c.proofs.Written.{gives-itself, handed, seen}
+use Rattle.paxidore_calls.proofs.Written.{gives-itself, handed, seen}
 use Rattle.paxidore_c.specs.Poseidon.{IsCircomTable}
-use Rattle.paxidore_c.specs.declared.refused.Refused.TheVariants.{Other}
+use Rattle.paxidore_calls.specs.declared.refused.Refused.TheVariants.{Other}
 use Rattle.circom_bytes.specs.Hash.{IsCircomRefused}
 use Rattle.paxidore_c.proofs.poseidon.paxidore_poseidon_table.Goals as goal
 

@@ -5,7 +5,7 @@ use Rattle.circom_logs.specs.Nodes.{refusal_error}
 use Rattle.merkle_log.specs.Edge.{all_of}
 use Rattle.merkle_log.specs.Log.{inclusion_path}
 use Rattle.paxidore_c.specs.PoseidonLog.{elements_given}
-use Rattle.paxidore_c.specs.declared.refused.Refused.TheVariants.{Index}
+use Rattle.paxidore_calls.specs.declared.refused.Refused.TheVariants.{Index}
 use Rattle.paxidore_c.proofs.TwoInputs.{bytes-given, digests-refused, refused-first, refused-next, table-refused, two-gives, two-refused}
 use Rattle.paxidore_c.proofs.poseidon_log.path_of.Goals as goal
 

@@ -1,7 +1,7 @@
 use Rattle.std.proofs.Common.{w32}
 use Rattle.std.proofs.lemmas.Int.{to_z-of_z}
 use Rattle.paxidore_c.specs.PoseidonLog.{elements_path}
-use Rattle.paxidore_c.proofs.Written.{gives-itself, seen}
+use Rattle.paxidore_calls.proofs.Written.{gives-itself, seen}
 use Rattle.paxidore_c.proofs.poseidon_log.paxidore_poseidon_path.Goals as goal
 
 pub returns-clause-path : goal.returns-clause-path

@@ -1,5 +1,5 @@
 use Rattle.std.proofs.Common.{inl, inr, refl, sym, ap, ◌∙◌}
-use Rattle.paxidore_c.specs.Answer.{refused_of}
+use Rattle.paxidore_calls.specs.Answer.{refused_of}
 use Rattle.paxidore_c.proofs.poseidon_log.table_of_two.Goals as goal
 
 pub returns-then-inputs-ne2-clause-read : goal.returns-then-inputs-ne2-clause-read

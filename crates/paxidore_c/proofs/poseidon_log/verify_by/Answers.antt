@@ -6,10 +6,10 @@ use Rattle.circom_logs.specs.Nodes.{element_hashes}
 use Rattle.circom_logs.proofs.Outcomes.{table-node}
 use Rattle.merkle_log.specs.Log.{NodeHash}
 use Rattle.merkle_log.specs.Received.{ShowsLogLeaf, inclusion_length, received_inclusion}
-use Rattle.paxidore_c.specs.Answer.{refusing}
-use Rattle.paxidore_c.specs.LogProofs.{proof_digests}
+use Rattle.paxidore_calls.specs.Answer.{refusing}
+use Rattle.paxidore_calls.specs.LogProofs.{proof_digests}
 use Rattle.paxidore_c.specs.PoseidonLog.{element_verdict}
-use Rattle.paxidore_c.proofs.Answering.{zero-says}
+use Rattle.paxidore_calls.proofs.Answering.{zero-says}
 use Rattle.paxidore_c.proofs.Codes.{answers-give, verdict-fits}
 use Rattle.paxidore_c.proofs.poseidon_log.verify_by.Goals as goal
 

@@ -5,9 +5,9 @@ use Rattle.ark_paths.specs.Pair.{Digest}
 use Rattle.circom_bytes.specs.Hash.{is_element, node_outcome}
 use Rattle.merkle_log.specs.Kept.{KeepsBy}
 use Rattle.merkle_log.specs.Stored.{stored_count}
-use Rattle.paxidore_c.specs.KeptLog.{more_count}
+use Rattle.paxidore_calls.specs.KeptLog.{more_count}
 use Rattle.paxidore_c.specs.PoseidonLog.{appended_by}
-use Rattle.paxidore_c.specs.declared.refused.Refused.TheVariants.{Invalid, Room, Size}
+use Rattle.paxidore_calls.specs.declared.refused.Refused.TheVariants.{Invalid, Room, Size}
 use Rattle.paxidore_c.proofs.Hashed.{refused-gives}
 use Rattle.paxidore_c.proofs.KeptGiven.{any-refused, whole-read}
 use Rattle.paxidore_c.proofs.poseidon_log_kept.append_elements.Goals as goal

@@ -7,7 +7,7 @@ use Rattle.circom_logs.specs.Nodes.{refusal_error}
 use Rattle.merkle_log.specs.Edge.{all_of}
 use Rattle.merkle_log.specs.Log.{inclusion_path}
 use Rattle.paxidore_c.specs.PoseidonLog.{kept_path_given}
-use Rattle.paxidore_c.specs.declared.refused.Refused.TheVariants.{Index, Size}
+use Rattle.paxidore_calls.specs.declared.refused.Refused.TheVariants.{Index, Size}
 use Rattle.paxidore_c.proofs.KeptGiven.{any-refused}
 use Rattle.paxidore_c.proofs.TwoInputs.{bytes-given, digests-refused, table-refused, two-given, two-gives, two-refused}
 use Rattle.paxidore_c.proofs.poseidon_log_kept.kept_path_of.Goals as goal

@@ -1,9 +1,9 @@
 use Rattle.std.proofs.Common.{◌≡◌, [], true, false, nat_lt, Ok, inr, refl, ap, arith}
 use Rattle.std.proofs.lemmas.Bool.{le-ltb, lt-ltb}
 use Rattle.circom_logs.specs.Nodes.{refusal_error}
-use Rattle.paxidore_c.specs.Answer.{refusing}
+use Rattle.paxidore_calls.specs.Answer.{refusing}
 use Rattle.paxidore_c.specs.PoseidonLog.{kept_root_given}
-use Rattle.paxidore_c.specs.declared.refused.Refused.TheVariants.{Size}
+use Rattle.paxidore_calls.specs.declared.refused.Refused.TheVariants.{Size}
 use Rattle.paxidore_c.proofs.KeptGiven.{any-refused}
 use Rattle.paxidore_c.proofs.TwoInputs.{library-refused, table-refused, two-given, two-refused}
 use Rattle.paxidore_c.proofs.poseidon_log_kept.kept_root_of.Goals as goal

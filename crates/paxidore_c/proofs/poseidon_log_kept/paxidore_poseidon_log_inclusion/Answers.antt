@@ -1,7 +1,7 @@
 use Rattle.std.proofs.Common.{take, w32}
 use Rattle.std.proofs.lemmas.Int.{to_z-of_z}
 use Rattle.paxidore_c.specs.PoseidonLog.{kept_path_given, path_of_elements}
-use Rattle.paxidore_c.proofs.Written.{gives-itself, seen}
+use Rattle.paxidore_calls.proofs.Written.{gives-itself, seen}
 use Rattle.paxidore_c.proofs.poseidon_log_kept.paxidore_poseidon_log_inclusion.Goals as goal
 
 pub returns-clause-path : goal.returns-clause-path

@@ -1,5 +1,5 @@
 use Rattle.std.proofs.Common.{inl, sym, ap}
-use Rattle.paxidore_c.specs.Answer.{done_code}
+use Rattle.paxidore_calls.specs.Answer.{done_code}
 use Rattle.paxidore_c.proofs.Hashed.{refused-gives}
 use Rattle.paxidore_c.proofs.poseidon_log_kept.paxidore_poseidon_log_root.Goals as goal
 

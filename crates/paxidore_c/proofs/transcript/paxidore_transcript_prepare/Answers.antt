@@ -1,7 +1,7 @@
 use Rattle.std.proofs.Common.{w32}
 use Rattle.std.proofs.lemmas.Int.{to_z-of_z}
-use Rattle.paxidore_c.proofs.Written.{gives-itself, handed, seen}
-use Rattle.paxidore_c.specs.Transcript.{ServeAs}
+use Rattle.paxidore_calls.proofs.Written.{gives-itself, handed, seen}
+use Rattle.paxidore_calls.specs.Transcript.{ServeAs}
 use Rattle.paxidore_c.proofs.transcript.paxidore_transcript_prepare.Goals as goal
 
 pub returns-clause-serve : goal.returns-clause-serve

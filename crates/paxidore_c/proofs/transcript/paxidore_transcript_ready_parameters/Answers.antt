@@ -2,9 +2,9 @@ use Rattle.std.proofs.Common.{◌⊎◌, inl, inr, Err, w32}
 use Rattle.std.proofs.lemmas.Int.{to_z-of_z}
 use Rattle.std.proofs.lemmas.Result.{IfErr-weaker}
 use Rattle.paxidore_c.proofs.Hashed.{handed-codes}
-use Rattle.paxidore_c.proofs.Written.{gives-itself, handed, seen}
-use Rattle.paxidore_c.specs.Transcript.{SpellReady}
-use Rattle.paxidore_c.specs.declared.refused.Refused.TheVariants.{Count, Invalid}
+use Rattle.paxidore_calls.proofs.Written.{gives-itself, handed, seen}
+use Rattle.paxidore_calls.specs.Transcript.{SpellReady}
+use Rattle.paxidore_calls.specs.declared.refused.Refused.TheVariants.{Count, Invalid}
 use Rattle.paxidore_c.proofs.transcript.paxidore_transcript_ready_parameters.Goals as goal
 
 pub returns-clause-ready : goal.returns-clause-ready

@@ -1,6 +1,6 @@
 use Rattle.std.proofs.Common.{ap, w32}
 use Rattle.std.proofs.lemmas.Int.{to_z-of_z}
-use Rattle.paxidore_c.specs.Transcript.{left_by}
+use Rattle.paxidore_calls.specs.Transcript.{left_by}
 use Rattle.paxidore_c.proofs.transcript.paxidore_transcript_squeeze_bytes.Goals as goal
 
 pub returns-in-Ok-clause-state : goal.returns-in-Ok-clause-state

@@ -1,7 +1,7 @@
 use Rattle.std.proofs.Common.{inl, inr, refl}
 use Rattle.ark_poseidon_parameters.specs.Ready.{AreReady, bls12_381_fr_alpha, bls12_381_fr_rounds, bn254_fr_rounds}
-use Rattle.paxidore_c.proofs.Written.{ready-spelled}
-use Rattle.paxidore_c.specs.Transcript.{SpellReady}
+use Rattle.paxidore_calls.proofs.Written.{ready-spelled}
+use Rattle.paxidore_calls.specs.Transcript.{SpellReady}
 use Rattle.paxidore_c.proofs.transcript.ready_over.Goals as goal
 
 pub returns-in_ok-bls12_381_fr-in-3-clause-ready : goal.returns-in_ok-bls12_381_fr-in-3-clause-ready

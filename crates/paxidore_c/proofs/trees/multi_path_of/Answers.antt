@@ -1,7 +1,7 @@
 use Rattle.std.proofs.Common.{◌≡◌, ◌∙◌, length, true, sym, refl}
-use Rattle.paxidore_c.specs.Hashing.{hashing_by}
-use Rattle.paxidore_c.proofs.TreeLemmas.{multi-made, written-multi}
-use Rattle.paxidore_c.specs.Answer.{are_indexes}
+use Rattle.paxidore_calls.specs.Hashing.{hashing_by}
+use Rattle.paxidore_calls.proofs.TreeLemmas.{multi-made, written-multi}
+use Rattle.paxidore_calls.specs.Answer.{are_indexes}
 use Rattle.paxidore_c.proofs.trees.multi_path_of.Goals as goal
 
 pub returns : goal.returns

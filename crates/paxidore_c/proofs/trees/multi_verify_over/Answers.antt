@@ -1,5 +1,5 @@
 use Rattle.std.proofs.Common.{refl, sym, ◌∙◌}
-use Rattle.paxidore_c.specs.Hashing.{hashing_by}
+use Rattle.paxidore_calls.specs.Hashing.{hashing_by}
 use Rattle.paxidore_c.proofs.Codes.{all-shown-gives, multi-shows-zero, no-index-gives, none-shown-gives}
 use Rattle.paxidore_c.proofs.trees.multi_verify_over.Goals as goal
 

@@ -1,7 +1,7 @@
 use Rattle.std.proofs.Common.{◌≡◌, length, nat_lt, true, false, arith, inr, refl}
 use Rattle.std.proofs.lemmas.Bool.{le-ltb, lt-ltb}
-use Rattle.paxidore_c.specs.Hashing.{hashing_by}
-use Rattle.paxidore_c.proofs.TreeLemmas.{path-made, path-refused}
+use Rattle.paxidore_calls.specs.Hashing.{hashing_by}
+use Rattle.paxidore_calls.proofs.TreeLemmas.{path-made, path-refused}
 use Rattle.paxidore_c.proofs.trees.path_of.Goals as goal
 
 pub returns-then-index-size : goal.returns-then-index-size

@@ -1,5 +1,5 @@
 use Rattle.sha2.proofs.Facts256.{length-sha256}
-use Rattle.paxidore_c.specs.Hashing.{rfc6962_hashing, sha256_hashing}
+use Rattle.paxidore_calls.specs.Hashing.{rfc6962_hashing, sha256_hashing}
 use Rattle.paxidore_c.proofs.Lengths.{path-counted}
 use Rattle.paxidore_c.proofs.trees.paxidore_path.Goals as goal
 

@@ -1,6 +1,6 @@
-use Rattle.paxidore_c.specs.Answer.{tree_leaves_in}
+use Rattle.paxidore_calls.specs.Answer.{tree_leaves_in}
 use Rattle.paxidore_c.proofs.Codes.{done-zero}
-use Rattle.paxidore_c.proofs.TreeLemmas.{log-root}
+use Rattle.paxidore_calls.proofs.TreeLemmas.{log-root}
 use Rattle.paxidore_c.proofs.trees.paxidore_root.Goals as goal
 
 pub returns-in-2-clause-tree_hash : goal.returns-in-2-clause-tree_hash

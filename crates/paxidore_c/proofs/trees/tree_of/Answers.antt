@@ -1,6 +1,6 @@
 use Rattle.std.proofs.Common.{refl, sym, ◌∙◌}
-use Rattle.paxidore_c.specs.Hashing.{hashing_by}
-use Rattle.paxidore_c.proofs.TreeLemmas.{tree-made, tree-memory}
+use Rattle.paxidore_calls.specs.Hashing.{hashing_by}
+use Rattle.paxidore_calls.proofs.TreeLemmas.{tree-made, tree-memory}
 use Rattle.paxidore_c.proofs.trees.tree_of.Goals as goal
 
 pub returns-in_err-new_with_leaf_digest : goal.returns-in_err-new_with_leaf_digest

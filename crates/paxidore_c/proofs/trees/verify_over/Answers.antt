@@ -1,6 +1,6 @@
 use Rattle.std.proofs.Common.{sym, ◌∙◌, refl}
 use Rattle.std.proofs.lemmas.Bool.{lt-ltb}
-use Rattle.paxidore_c.specs.Hashing.{hashing_by}
+use Rattle.paxidore_calls.specs.Hashing.{hashing_by}
 use Rattle.paxidore_c.proofs.Codes.{shown-gives, shows-zero}
 use Rattle.paxidore_c.proofs.trees.verify_over.Goals as goal
 

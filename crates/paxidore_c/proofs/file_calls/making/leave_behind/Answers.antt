@@ -1,6 +1,6 @@
 use Rattle.std.proofs.Common.{◌≤◌, ◌+◌, ◌∷◌, ◌∙◌, length, drop, sym, ap, subst, arith}
 use Rattle.std.proofs.lemmas.List.{drop_more}
-use Rattle.paxidore_c.proofs.Made.{behind_stays, behind-step}
+use Rattle.paxidore_calls.proofs.Made.{behind_stays, behind-step}
 use Rattle.paxidore_c.proofs.file_calls.making.leave_behind.Goals as goal
 
 pub loop-step-preserved : goal.loop-step-preserved

@@ -1,5 +1,5 @@
 use Rattle.std.proofs.Common.{drop}
-use Rattle.paxidore_c.proofs.Made.{behind_stays}
+use Rattle.paxidore_calls.proofs.Made.{behind_stays}
 use Rattle.paxidore_c.proofs.file_calls.making.leave_behind.Given as goal
 
 abbrev pub invariant-loop-step : goal.invariant-loop-step

@@ -4,11 +4,11 @@ use Rattle.std.proofs.lemmas.Result.{IfErr-weaker}
 use Rattle.log_store.specs.Healing.{IsReadAs}
 use Rattle.log_store.specs.Sectors.{sectors_head}
 use Rattle.log_store.specs.Store.{IsPartOf}
-use Rattle.paxidore_c.specs.Layouts.{IsSameLog, SettlesApart}
-use Rattle.paxidore_c.specs.Plan.{IsStopped, carried}
-use Rattle.paxidore_c.specs.declared.file_calls.replay.Step.{Step}
-use Rattle.paxidore_c.proofs.LogCalls.{as-read, carries-by, handed-no-head}
-use Rattle.paxidore_c.proofs.Made.{stops-by}
+use Rattle.paxidore_calls.specs.Layouts.{IsSameLog, SettlesApart}
+use Rattle.paxidore_calls.specs.Plan.{IsStopped, carried}
+use Rattle.paxidore_calls.specs.declared.file_calls.replay.Step.{Step}
+use Rattle.paxidore_calls.proofs.LogCalls.{as-read, carries-by, handed-no-head}
+use Rattle.paxidore_calls.proofs.Made.{stops-by}
 use Rattle.paxidore_c.proofs.file_calls.making.made_in.Goals as goal
 
 pub returns-clause-same : goal.returns-clause-same

@@ -3,8 +3,8 @@ use Rattle.std.proofs.Math.Logic.{⊎_map}
 use Rattle.std.proofs.lemmas.Int.{to_z-of_z}
 use Rattle.log_store.specs.Sectors.{sectors_head}
 use Rattle.log_store.proofs.Sectoring.{part-none}
-use Rattle.paxidore_c.proofs.LogCalls.{asks-by, left-by, tells, where-done, where-head}
-use Rattle.paxidore_c.proofs.Made.{settles-by}
+use Rattle.paxidore_calls.proofs.LogCalls.{asks-by, left-by, tells, where-done, where-head}
+use Rattle.paxidore_calls.proofs.Made.{settles-by}
 use Rattle.paxidore_c.proofs.file_calls.making.paxidore_log_file_make.Goals as goal
 
 pub returns-clause-same : goal.returns-clause-same

@@ -1,8 +1,8 @@
 use Rattle.std.proofs.Common.{◌∙◌, Ok, ap, sym}
 use Rattle.std.specs.List.{flat_map}
 use Rattle.ark_base.specs.Digits.{itself}
-use Rattle.paxidore_c.specs.KeptLog.{bytes_of_digests, inclusion_bytes}
-use Rattle.paxidore_c.proofs.LogCalls.{as-read, needs-by, stands-by}
+use Rattle.paxidore_calls.specs.KeptLog.{bytes_of_digests, inclusion_bytes}
+use Rattle.paxidore_calls.proofs.LogCalls.{as-read, needs-by, stands-by}
 use Rattle.paxidore_c.proofs.file_calls.proving.inclusion_in.Goals as goal
 
 pub returns-clause-path : goal.returns-clause-path

@@ -1,4 +1,0 @@
-use Rattle.paxidore_c.proofs.file_calls.laid.laid_replay.Goals as goal
-
-pub returns-in-Ok-clause-layout : goal.returns-in-Ok-clause-layout
-returns-in-Ok-clause-layout g c = λ read size. rw (c.new-disk.ensures.nothing) at (c.in-Ok.ensures (read, size))

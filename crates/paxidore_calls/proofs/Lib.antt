@@ -1,0 +1,16 @@
+pub mod Answering
+pub mod Blocks
+pub mod HeadLogs
+pub mod Cutting
+pub mod Drawing
+pub mod KeptLogs
+pub mod Layouts
+pub mod LogCalls
+pub mod Made
+pub mod Numbers
+pub mod Parts
+pub mod Plans
+pub mod Prepared
+pub mod TreeLemmas
+pub mod Whole
+pub mod Written

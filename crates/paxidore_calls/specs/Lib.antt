@@ -1,0 +1,12 @@
+pub mod Answer
+pub mod Blocks
+pub mod Cut
+pub mod Forms
+pub mod Hashing
+pub mod KeptLog
+pub mod Laws
+pub mod Layouts
+pub mod LogFiles
+pub mod LogProofs
+pub mod Plan
+pub mod Transcript
