@@ -1,5 +1,6 @@
-//! Trees over Pedersen's and Bowe-Hopwood's hashes over Jubjub, in plain functions: none has a line of proof.
+//! Trees over Pedersen's and Bowe-Hopwood's hashes over Jubjub, without a line of proof.
 
+use crate::plain::{path_in, root_over};
 use ark_crypto_primitives::Error;
 use ark_crypto_primitives::crh::jubjub_hashes::{
     BoweHopwoodCRH, BoweHopwoodParameters, BoweHopwoodTwoToOneCRH, PedersenCRH, PedersenParameters,
@@ -8,9 +9,7 @@ use ark_crypto_primitives::crh::jubjub_hashes::{
 use ark_crypto_primitives::crh::pedersen::{Windows4x64, Windows4x256, Windows63x9};
 use ark_crypto_primitives::ec::jubjub::Jubjub;
 use ark_crypto_primitives::ff::Bls12_381Fr;
-use ark_crypto_primitives::merkle_tree::{
-    ByteDigestConverter, Config, MerkleTree, Path, is_tree_size,
-};
+use ark_crypto_primitives::merkle_tree::{ByteDigestConverter, Config, MerkleTree, Path};
 use std::alloc::Global;
 
 /// Trees whose digests are points: a leaf has at most 32 bytes.
@@ -54,11 +53,7 @@ pub fn point_root(
     pair: &PedersenParameters,
     leaves: &[Vec<u8>],
 ) -> Result<Option<Jubjub>, Error> {
-    if !is_tree_size(leaves.len()) {
-        return Ok(None);
-    }
-    let tree = MerkleTree::<PointTree>::new(alloc, leaf, pair, leaves)?;
-    Ok(Some(*tree.root()))
+    root_over::<PointTree>(alloc, leaf, pair, leaves)
 }
 
 /// Returns the path of an index in a tree of points; `None` past its leaves.
@@ -67,10 +62,7 @@ pub fn point_path(
     tree: &MerkleTree<PointTree>,
     index: usize,
 ) -> Result<Option<Path<PointTree>>, Error> {
-    if index >= tree.size() {
-        return Ok(None);
-    }
-    Ok(Some(tree.generate_proof(alloc, index)?))
+    path_in(alloc, tree, index)
 }
 
 /// Returns whether a path leads from a leaf to the root of a tree of points.
@@ -92,11 +84,7 @@ pub fn coordinate_root(
     pair: &BoweHopwoodParameters,
     leaves: &[Vec<u8>],
 ) -> Result<Option<Bls12_381Fr>, Error> {
-    if !is_tree_size(leaves.len()) {
-        return Ok(None);
-    }
-    let tree = MerkleTree::<CoordinateTree>::new(alloc, leaf, pair, leaves)?;
-    Ok(Some(*tree.root()))
+    root_over::<CoordinateTree>(alloc, leaf, pair, leaves)
 }
 
 /// Returns the path of an index in a tree of coordinates; `None` past its leaves.
@@ -105,10 +93,7 @@ pub fn coordinate_path(
     tree: &MerkleTree<CoordinateTree>,
     index: usize,
 ) -> Result<Option<Path<CoordinateTree>>, Error> {
-    if index >= tree.size() {
-        return Ok(None);
-    }
-    Ok(Some(tree.generate_proof(alloc, index)?))
+    path_in(alloc, tree, index)
 }
 
 /// Returns whether a path leads from a leaf to the root of a tree of coordinates.

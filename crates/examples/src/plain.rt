@@ -1,13 +1,15 @@
-//! Trees over Poseidon hashes of three fields, and a signature over Jubjub, in plain functions: none has a line of proof.
+//! Trees over Poseidon hashes of three fields, and a signature over Jubjub, without a line of proof. What is generic over the
+//! configuration or the scheme is proved once, and a plain function names them.
 
 use ark_crypto_primitives::Error;
 use ark_crypto_primitives::crh::poseidon::{CRH, TwoToOneCRH};
 use ark_crypto_primitives::ec::jubjub::Jubjub;
 use ark_crypto_primitives::ff::{Bls12_381Fr, Bn254Fr, Fp, Goldilocks};
 use ark_crypto_primitives::merkle_tree::{
-    Config, IdentityDigestConverter, MerkleTree, Path, is_tree_size,
+    Config, IdentityDigestConverter, LeafParam, MerkleTree, Path, TwoToOneParam, is_tree_size,
 };
 use ark_crypto_primitives::prf::Blake2s256;
+use ark_crypto_primitives::serialize::Duplicate;
 use ark_crypto_primitives::signature::SignatureScheme;
 use ark_crypto_primitives::signature::schnorr::Schnorr;
 use ark_crypto_primitives::sponge::poseidon::PoseidonConfig;
@@ -81,17 +83,40 @@ pub fn circom_holds(
     path.verify(alloc, leaf, pair, root, note)
 }
 
+/// Returns the root of the tree of some leaves; `None` where their count is no power of two above one. Errors: those of the
+/// hashes.
+pub fn root_over<P: Config>(
+    alloc: Global,
+    leaf: &LeafParam<P>,
+    pair: &TwoToOneParam<P>,
+    leaves: &[P::Leaf],
+) -> Result<Option<P::InnerDigest>, Error> {
+    if !is_tree_size(leaves.len()) {
+        return Ok(None);
+    }
+    let tree = MerkleTree::<P>::new(alloc, leaf, pair, leaves)?;
+    Ok(Some(tree.root().duplicate(alloc)?))
+}
+
+/// Returns the path of an index in a tree; `None` past its leaves. The only error is `OutOfMemory`.
+pub fn path_in<P: Config>(
+    alloc: Global,
+    tree: &MerkleTree<P>,
+    index: usize,
+) -> Result<Option<Path<P>>, Error> {
+    if index >= tree.size() {
+        return Ok(None);
+    }
+    Ok(Some(tree.generate_proof(alloc, index)?))
+}
+
 /// Returns the root of some notes; `None` where their count is no power of two above one.
 pub fn root_of_notes(
     alloc: Global,
     parameters: &PoseidonConfig<Bls12_381Fr>,
     notes: &[Vec<Bls12_381Fr>],
 ) -> Result<Option<Bls12_381Fr>, Error> {
-    if !is_tree_size(notes.len()) {
-        return Ok(None);
-    }
-    let tree = MerkleTree::<Notes>::new(alloc, parameters, parameters, notes)?;
-    Ok(Some(*tree.root()))
+    root_over::<Notes>(alloc, parameters, parameters, notes)
 }
 
 /// Returns the root of some notes over a field of one word; `None` where their count is no power of two above one.
@@ -100,21 +125,26 @@ pub fn root_of_small_notes(
     parameters: &PoseidonConfig<Fp<Goldilocks>>,
     notes: &[Vec<Fp<Goldilocks>>],
 ) -> Result<Option<Fp<Goldilocks>>, Error> {
-    if !is_tree_size(notes.len()) {
-        return Ok(None);
-    }
-    let tree = MerkleTree::<SmallNotes>::new(alloc, parameters, parameters, notes)?;
-    Ok(Some(*tree.root()))
+    root_over::<SmallNotes>(alloc, parameters, parameters, notes)
 }
 
-/// Whether the signature of a message by drawn keys is accepted, which it is.
+// Whether the signature of a message by drawn keys is accepted.
+fn signature_holds<S: SignatureScheme, R: Rng>(
+    alloc: Global,
+    message: &[u8],
+    rng: &mut R,
+) -> Result<bool, Error> {
+    let parameters = S::setup(alloc, rng)?;
+    let (public, secret) = S::keygen(alloc, &parameters, rng)?;
+    let signature = S::sign(alloc, &parameters, &secret, message, rng)?;
+    S::verify(alloc, &parameters, &public, message, &signature)
+}
+
+/// Whether the signature of a message by drawn keys over Jubjub is accepted, which it is.
 pub fn own_signature_holds<R: Rng>(
     alloc: Global,
     message: &[u8],
     rng: &mut R,
 ) -> Result<bool, Error> {
-    let parameters = Schnorr::<Jubjub, Blake2s256>::setup(alloc, rng)?;
-    let (public, secret) = Schnorr::<Jubjub, Blake2s256>::keygen(alloc, &parameters, rng)?;
-    let signature = Schnorr::<Jubjub, Blake2s256>::sign(alloc, &parameters, &secret, message, rng)?;
-    Schnorr::<Jubjub, Blake2s256>::verify(alloc, &parameters, &public, message, &signature)
+    signature_holds::<Schnorr<Jubjub, Blake2s256>, R>(alloc, message, rng)
 }
