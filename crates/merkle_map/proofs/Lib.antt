@@ -23,6 +23,7 @@ pub mod Keeping
 pub mod Masks
 pub mod ProofReading
 pub mod Hashed
+pub mod Hashing
 pub mod Ahead
 pub mod Back
 mod Ready

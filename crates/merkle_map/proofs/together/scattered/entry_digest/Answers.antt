@@ -1,7 +1,7 @@
 use Rattle.std.proofs.Common.{◌≡◌, [], get_or, arith, refl, sym, ◌∙◌}
 use Rattle.std.proofs.lemmas.List.{get_or_default}
 use Rattle.merkle_map.proofs.Ahead.{entry-at}
-use Rattle.merkle_map.proofs.together.entry_digest.Goals as goal
+use Rattle.merkle_map.proofs.together.scattered.entry_digest.Goals as goal
 
 pub returns-then-is_entry : goal.returns-then-is_entry
 returns-then-is_entry g c =
