@@ -16,7 +16,7 @@ known-fork numbers h a b now-a now-b l r left right old own new same-a same-b l-
     let left-is : shape_digest h a ≡ Ok (numbers l) = subst (IsFor numbers (shape_digest h a)) l-is on-left in
     let right-is : shape_digest h b ≡ Ok (numbers r) = subst (IsFor numbers (shape_digest h b)) r-is on-right in
     let pair : shape_digest h (Fork a b) ≡ h.pair (numbers l) (numbers r) =
-      λ i. left-is i >>= (λ x. right-is i >>= h.pair x) in
+    λ i. left-is i >>= (λ x. right-is i >>= h.pair x) in
     let now : shape_digest h (Fork now-a now-b) ≡ shape_digest h (Fork a b) =
-      λ i. shape_digest h (Fork (same-a i) (same-b i)) in
+    λ i. shape_digest h (Fork (same-a i) (same-b i)) in
     subst (λ o. IsFor numbers o new) (sym now) (step _ was (subst (λ o. IsFor numbers o own) (sym pair) is))
