@@ -106,5 +106,6 @@ impl TwoToOneCRHScheme for Sha256Map {
 pub fn nodes_are_apart()
     // The hash of a node is that of its bytes.
     ensures hash { (node : Node) → digest_of sha256_map node ≡ Ok (sha256 (node_bytes node)) }
-    ensures apart { (a b : Node) → HasPartsOf32 a → HasPartsOf32 b → node_bytes a ≡ node_bytes b → a ≡ b }
+    ensures apart { (a b : Node) → HasPartsOf32 a → HasPartsOf32 b
+        → node_bytes a ≡ node_bytes b → a ≡ b }
 {}

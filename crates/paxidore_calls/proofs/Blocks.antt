@@ -119,10 +119,6 @@ module _ (node : PlainNode) (made : List ℕ → Digest) (lengths : List ℕ) (x
     pub before : (q : ℕ) → q < number → root (alike node) (block_of q (map made xs)) ≡ Ok (get_or roots q [])
     pub others : parts_by rest (drop (1024 * number) lengths) ≡ Some (drop (1024 * number) xs)
 
-  pub before-none : (roots : List Digest) (leaves : List ℕ) → parts_by leaves lengths ≡ Some xs
-      → AreBefore 0 roots leaves
-  before-none roots leaves is = record { before = λ q below. absurd (omega arith); others = is }
-
   pub before-more : (number : ℕ) (roots : List Digest) (rest behind : List ℕ) (d : Digest)
       → AreBefore number roots rest → number < length roots
       → IfSome (parts_by rest (drop (1024 * number) lengths))

@@ -37,14 +37,6 @@ use Rattle.paxidore_calls.specs.declared.file_calls.replay.Step.{Step}
 
 -- ---- a sync alone
 
-sync-none : (at : ℕ) (bytes file left : List ℕ) → at ≡ 0 → bytes ≡ []
-    → Torn at bytes file left ⊎ (left ≡ written file at bytes) → left ≡ file
-sync-none at bytes file left begin none told = ⊎_elim
-    (λ torn. torn-itself 0 0 [] file left (omega arith) refl refl
-    (subst (λ b. Torn 0 b file left) none (subst (λ n. Torn n bytes file left) begin torn)))
-    (λ all. all ∙ ap (λ n. written file n bytes) begin ∙ ap (written file 0) none
-    ∙ same-written 0 0 file [] (omega arith) refl) told
-
 -- ---- the begin of a file, written again
 
 start-written : (bytes file : List ℕ) → 64 ≤ length file → bytes ≡ take 64 file → written file 0 bytes ≡ file
