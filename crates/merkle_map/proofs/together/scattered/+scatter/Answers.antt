@@ -16,9 +16,7 @@ returns-in_ok-own-in-Fork-clause-kept g t c =
     let was = subst (λ s. IsFor numbers (shape_digest h (Fork (shape numbers s.left) (shape numbers s.right))) s.digest)
     (sym c.deref_mut.ensures.value) kept.0 in
     let l-is = subst (IsFor numbers _) c.in-Some-Some.is-0 on-left.digest in
-    let r-is = subst (IsFor numbers _) c.in-Some-Some.is-1 on-right.digest in (
-      put-known numbers _ _ _ _ _ _ (λ i. shape_digest h (Fork (on-left.same i) (on-right.same i)))
-          (fork-known h (shape numbers sides.left) (shape numbers sides.right) _ _ l-is r-is) was c.in_ok-own-in-Fork.ensures c.keep_known.ensures.kept,
-      on-left.kept,
-      on-right.kept,
-    )
+    let r-is = subst (IsFor numbers _) c.in-Some-Some.is-1 on-right.digest in
+    let known = fork-known h (shape numbers sides.left) (shape numbers sides.right) _ _ l-is r-is in
+    let put = put-known numbers _ _ _ _ _ _ (λ i. shape_digest h (Fork (on-left.same i) (on-right.same i))) known was
+    c.in_ok-own-in-Fork.ensures c.keep_known.ensures.kept in (put, on-left.kept, on-right.kept)
