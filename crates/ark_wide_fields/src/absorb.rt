@@ -15,10 +15,10 @@ use ark_groups::ff::{Field, is_same_field, same_element};
 
 impl<M: WideModulus> AbsorbItem for Fp256<M> {
     ghost sponge_bytes = { λ x. bytes_of_number (bytes_for M.BITS)
-        (value_of M.P M.INVERSE x.kept) };
+        (value_of M.P M.INVERSE x.form) };
 
     ghost sponge_elements = { λ x. own_elements (number M.P)
-        (value_of M.P M.INVERSE x.kept ∷ []) };
+        (value_of M.P M.INVERSE x.form ∷ []) };
 
     fn push_bytes(&self, dest: &mut Vec<u8>) -> Result<(), Error> {
         self.serialize(dest)
@@ -35,7 +35,7 @@ impl<M: WideModulus> AbsorbItem for Fp256<M> {
 
 impl<M: WideModulus> Absorb for Fp256<M> {
     ghost batch_elements = { λ xs. own_elements (number M.P)
-        (map (λ x. value_of M.P M.INVERSE x.kept) xs) };
+        (map (λ x. value_of M.P M.INVERSE x.form) xs) };
 
     fn batch_to_sponge_field_elements<F: Field>(
         batch: &[Fp256<M>],

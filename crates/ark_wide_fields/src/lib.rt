@@ -1,4 +1,4 @@
-//! Fields of four words: the numbers below a modulus of 193 to 255 bits, kept for Montgomery's reduction.
+//! Fields of four words: the numbers below a modulus of 193 to 255 bits, in Montgomery form.
 //!
 //! Only `InvertibleField` asks that a modulus is prime, for inverses and square roots. A modulus of 256 bits, as
 //! secp256k1's, is not served: sums of two numbers below it take a fifth word.
@@ -19,7 +19,7 @@ mod words;
 
 pub use batch::{NoInverses, batch_inverse};
 pub use choices::{mask_in_place, mask_of, words_under};
-pub use fp256::{Fp256, element_under, of_kept, prime_inverse};
+pub use fp256::{Fp256, element_under, of_form, prime_inverse};
 pub use moduli::{
     Bls12_381Fr, Bls12_381FrModulus, Bn254Fr, Bn254FrModulus, PallasFp, PallasFpModulus, VestaFp,
     VestaFpModulus,

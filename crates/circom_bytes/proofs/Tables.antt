@@ -8,11 +8,11 @@ use Rattle.ark_base.specs.Outcome.{Outcome}
 use Rattle.ark_sponge.specs.declared.poseidon.table.shape.TableShape.{TableShape}
 use Rattle.ark_sponge.specs.Permutation.{Parameters}
 use Rattle.ark_sponge.specs.Table.{IsShortOf, IsTable, ShortParts, parts_in, shape_of}
-use Rattle.circom_bytes.specs.Elements.{kept_bytes}
+use Rattle.circom_bytes.specs.Elements.{form_bytes}
 use Rattle.circom_bytes.specs.Frame.{IsFrame, check_sum, shape_for, table_count, table_end, with_sum}
 use Rattle.circom_bytes.specs.Hash.{AreCircom, IsTableOf, SpellsTable, modulus}
 use Rattle.circom_bytes.proofs.Frames.{frame-spelled, length-behind, summed-behind, summed-long}
-use Rattle.circom_bytes.proofs.Reading.{length-kept_bytes}
+use Rattle.circom_bytes.proofs.Reading.{length-form_bytes}
 
 -- one outcome has one value
 pub ok_same : (outcome : Outcome (List ℕ)) (xs ys : List ℕ) → outcome ≡ Ok xs → outcome ≡ Ok ys → xs ≡ ys
@@ -28,10 +28,10 @@ module _ (inputs : ℕ) (c : Parameters) (bytes : List ℕ) (spells : SpellsTabl
   pub first_is : get_or bytes 0 0 ≡ inputs
   first_is = ap (λ t. get_or t 0 0) spells.spelled
 
-  body-long : length (inputs ∷ kept_bytes modulus spells.numbers) ≡ table_end inputs
+  body-long : length (inputs ∷ form_bytes modulus spells.numbers) ≡ table_end inputs
   body-long =
-      length-behind inputs (32 * table_count inputs) (kept_bytes modulus spells.numbers)
-      (length-kept_bytes modulus spells.numbers ∙ ap (λ n. 32 * n) spells.count)
+      length-behind inputs (32 * table_count inputs) (form_bytes modulus spells.numbers)
+      (length-form_bytes modulus spells.numbers ∙ ap (λ n. 32 * n) spells.count)
 
   -- what is spelled has a frame
   pub framed : IsFrame inputs bytes
@@ -39,16 +39,16 @@ module _ (inputs : ℕ) (c : Parameters) (bytes : List ℕ) (spells : SpellsTabl
     some = spells.some;
     few = spells.few;
     first = first_is;
-    long = summed-long (table_end inputs) (inputs ∷ kept_bytes modulus spells.numbers) bytes body-long spells.spelled;
-    sum = summed-behind (table_end inputs) (inputs ∷ kept_bytes modulus spells.numbers) bytes body-long spells.spelled;
+    long = summed-long (table_end inputs) (inputs ∷ form_bytes modulus spells.numbers) bytes body-long spells.spelled;
+    sum = summed-behind (table_end inputs) (inputs ∷ form_bytes modulus spells.numbers) bytes body-long spells.spelled;
   }
 
   pub rest_is : (rest part : List ℕ) → rest ≡ drop 1 bytes → part ≡ take (32 * table_count inputs) rest
-      → part ≡ kept_bytes modulus spells.numbers
+      → part ≡ form_bytes modulus spells.numbers
   rest_is rest part is_rest is_part =
-      let body = kept_bytes modulus spells.numbers in
+      let body = form_bytes modulus spells.numbers in
       let long : 32 * table_count inputs ≡ length body =
-      sym (length-kept_bytes modulus spells.numbers ∙ ap (λ n. 32 * n) spells.count) in
+      sym (length-form_bytes modulus spells.numbers ∙ ap (λ n. 32 * n) spells.count) in
       is_part ∙ ap (take (32 * table_count inputs)) (is_rest ∙ ap (drop 1) spells.spelled)
       ∙ take-front (32 * table_count inputs) body (check_sum (inputs ∷ body)) long
 
@@ -77,7 +77,7 @@ module _ (inputs : ℕ) (c : Parameters) (bytes : List ℕ) (spells : SpellsTabl
 -- bytes that are made of the parameters, the numbers of their table and the check sum
 pub made_is : (inputs : ℕ) (c : Parameters) (numbers bytes : List ℕ) → 1 ≤ inputs → inputs ≤ 16 → AreCircom inputs c
     → length numbers ≡ table_count inputs → All (λ x. x < modulus) numbers → IsTable modulus c numbers
-    → bytes ≡ with_sum (inputs ∷ kept_bytes modulus numbers) → SpellsTable inputs c bytes
+    → bytes ≡ with_sum (inputs ∷ form_bytes modulus numbers) → SpellsTable inputs c bytes
 made_is inputs c numbers bytes some few circom count below table spelled = record {
   some = some;
   few = few;
@@ -113,9 +113,9 @@ module _ (inputs count : ℕ) (bytes rest part numbers : List ℕ) (frame : IsFr
         subst (λ k. 32 * n ≤ k) (sym (length-drop 1 bytes)) (within n (length bytes) frame.long) in
         ap length part-is ∙ length-take-le (32 * n) (drop 1 bytes) room
 
-    pub numbers-long : part ≡ kept_bytes modulus numbers → length numbers ≡ table_count inputs
+    pub numbers-long : part ≡ form_bytes modulus numbers → length numbers ≡ table_count inputs
     numbers-long kept = times_same (length numbers) (table_count inputs)
-        (sym (length-kept_bytes modulus numbers) ∙ ap length (sym kept) ∙ part-long)
+        (sym (length-form_bytes modulus numbers) ∙ ap length (sym kept) ∙ part-long)
 
-    pub numbers-spelled : part ≡ kept_bytes modulus numbers → bytes ≡ with_sum (inputs ∷ kept_bytes modulus numbers)
+    pub numbers-spelled : part ≡ form_bytes modulus numbers → bytes ≡ with_sum (inputs ∷ form_bytes modulus numbers)
     numbers-spelled kept = frame-spelled inputs bytes frame ∙ ap (λ t. with_sum (inputs ∷ t)) (sym part-is ∙ kept)

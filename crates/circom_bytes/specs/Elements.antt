@@ -32,9 +32,9 @@ abbrev pub element_bytes : ByteOrder → ℕ → List ℕ
 element_bytes order number = ordered order (bytes_of_number 32 number)
 
 -- numbers times 2^256 modulo p, 32 bytes each: so elements need no product to be read
-abbrev pub kept_bytes : ℕ → List ℕ → List ℕ
-kept_bytes p = flat_map (λ x. bytes_of_number 32 (x * 2 ^ 256 % p))
+abbrev pub form_bytes : ℕ → List ℕ → List ℕ
+form_bytes p = flat_map (λ x. bytes_of_number 32 (x * 2 ^ 256 % p))
 
--- bytes that no numbers below p are kept as
-abbrev pub AreNoneKept : ℕ → List ℕ → Type 0
-AreNoneKept p bytes = (xs : List ℕ) → All (λ x. x < p) xs → bytes ≡ kept_bytes p xs → ⊥
+-- bytes that are the forms of no numbers below p
+abbrev pub AreNoForms : ℕ → List ℕ → Type 0
+AreNoForms p bytes = (xs : List ℕ) → All (λ x. x < p) xs → bytes ≡ form_bytes p xs → ⊥

@@ -8,11 +8,11 @@ use Rattle.ark_base.specs.Outcome.{Outcome, ◌>>=◌}
 use Rattle.ark_sponge.specs.Permutation.{Parameters}
 use Rattle.ark_sponge.specs.Table.{IsShortOf, IsTable, ShortParts, parts_in, short_permutation}
 use Rattle.ark_poseidon.specs.Circom.{circom_outcome}
-use Rattle.poseidon_grain.specs.Constants.{AreParameters, Asked, IsMatrixRefused, asked_of}
+use Rattle.poseidon_grain.specs.Constants.{AreParameters, Instance, IsMatrixRefused, instance_of}
 use Rattle.poseidon_grain.specs.Defaults.{circom_rounds}
 use Rattle.circom_bytes.specs.declared.elements.ByteOrder.{ByteOrder}
 use Rattle.circom_bytes.specs.declared.elements.ByteOrder.TheVariants.{LittleEndian}
-use Rattle.circom_bytes.specs.Elements.{AreNoneKept, element_bytes, element_in, elements_of_bytes, kept_bytes}
+use Rattle.circom_bytes.specs.Elements.{AreNoForms, element_bytes, element_in, elements_of_bytes, form_bytes}
 use Rattle.circom_bytes.specs.Frame.{IsFrame, IsFrameFault, elements_part, shape_for, table_count, with_sum}
 
 -- the modulus of the scalar field of BN254
@@ -24,17 +24,17 @@ abbrev pub power : ℕ → ℕ → ℕ
 power alpha x = x ^ alpha % modulus
 
 -- what the generator of the constants is asked for, for the hash of so many inputs
-abbrev pub circom_asked : ℕ → Asked
-circom_asked inputs = asked_of modulus 254 (inputs + 1) 8 (circom_rounds inputs) 0
+abbrev pub circom_instance : ℕ → Instance
+circom_instance inputs = instance_of modulus 254 (inputs + 1) 8 (circom_rounds inputs) 0
 
 -- The parameters of circomlib's hash of so many inputs: those of the Grain LFSR, for a capacity of one element and
 -- fifth powers.
 abbrev pub AreCircom : ℕ → Parameters → Type 0
-AreCircom inputs c = AreParameters (circom_asked inputs) inputs 1 5 c
+AreCircom inputs c = AreParameters (circom_instance inputs) inputs 1 5 c
 
 -- the matrix that the generator gives for the hash of so many inputs is refused
 abbrev pub IsCircomRefused : ℕ → Type 0
-IsCircomRefused inputs = IsMatrixRefused (circom_asked inputs)
+IsCircomRefused inputs = IsMatrixRefused (circom_instance inputs)
 
 -- the hash of so many elements that bytes in an order are
 abbrev pub elements_hashed : ℕ → (ℕ → ℕ → ℕ) → Parameters → ByteOrder → ℕ → List ℕ → Outcome (List ℕ)
@@ -92,7 +92,7 @@ pub record SpellsTable (inputs : ℕ) (c : Parameters) (bytes : List ℕ) : Type
   pub count : length numbers ≡ table_count inputs
   pub below : All (λ x. x < modulus) numbers
   pub table : IsTable modulus c numbers
-  pub spelled : bytes ≡ with_sum (inputs ∷ kept_bytes modulus numbers)
+  pub spelled : bytes ≡ with_sum (inputs ∷ form_bytes modulus numbers)
 
 -- The table is what bytes hold: a count of inputs, as many numbers as its table has, and their check sum.
 pub record IsTableIn (bytes : List ℕ) (table : TableValue) : Type 0 where
@@ -101,12 +101,12 @@ pub record IsTableIn (bytes : List ℕ) (table : TableValue) : Type 0 where
   pub numbers : List ℕ
   pub count : length numbers ≡ table_count table.inputs
   pub below : All (λ x. x < modulus) numbers
-  pub spelled : bytes ≡ with_sum (table.inputs ∷ kept_bytes modulus numbers)
+  pub spelled : bytes ≡ with_sum (table.inputs ∷ form_bytes modulus numbers)
   pub parts : table.parts ≡ parts_in (shape_for table.inputs) numbers
 
 -- why bytes are no table: they are cut, or damaged, or their check sum is right and they hold no elements
 abbrev pub IsTableFault : List ℕ → Error → Type 0
 IsTableFault bytes error =
     IsFrameFault bytes error
-    ⊎ (IsFrame (get_or bytes 0 0) bytes × AreNoneKept modulus (elements_part bytes)
+    ⊎ (IsFrame (get_or bytes 0 0) bytes × AreNoForms modulus (elements_part bytes)
     × (error ≡ SerializationError InvalidData))

@@ -6,7 +6,7 @@
 mod elements;
 mod frame;
 mod hash;
-mod kept;
+mod forms;
 mod table;
 
 pub use elements::ByteOrder;

@@ -5,13 +5,13 @@ ghost use Rattle.ark_base.specs.declared.error.Error.TheVariants.{IncorrectInput
 ghost use Rattle.ark_sponge.specs.Permutation.{Parameters};
 ghost use Rattle.ark_sponge.specs.Table.{IsTable};
 ghost use Rattle.circom_bytes.specs.Frame.{table_count, table_end};
-ghost use Rattle.circom_bytes.specs.Hash.{circom_asked, hash_outcome, is_element, IsTableFault, IsTableIn, IsTableOf, modulus, node_outcome, SpellsTable, table_outcome};
+ghost use Rattle.circom_bytes.specs.Hash.{circom_instance, hash_outcome, is_element, IsTableFault, IsTableIn, IsTableOf, modulus, node_outcome, SpellsTable, table_outcome};
 ghost use Rattle.poseidon_grain.specs.Constants.{IsMatrixFault};
 
 use crate::elements::{ByteOrder, element_bytes, element_of};
 use crate::frame::{count_for, inputs_of, put_sum, shape_for};
 use crate::hash::{hash_elements, hash_state};
-use crate::kept::{put_kept, read_kept};
+use crate::forms::{put_forms, read_forms};
 use ark_base::error::{Error, SerializationError};
 use ark_groups::ff::{Field, Valued};
 use ark_poseidon_parameters::Power;
@@ -73,8 +73,8 @@ fn elements_for(
     }
 }
 
-/// Returns the bytes of the table of circomlib's hash of so many inputs: the count in a byte, the table's elements as they are kept,
-/// in 32 bytes each, and a check sum of eight bytes. It runs the generator of the constants, which takes milliseconds.
+/// Returns the bytes of the table of circomlib's hash of so many inputs: the count in a byte, the table's elements by their Montgomery
+/// forms, in 32 bytes each, and a check sum of eight bytes. It runs the generator of the constants, which takes milliseconds.
 ///
 /// Errors: `IncorrectInputLength` for another count than 1 to 16; `ParameterShape` for a matrix that is refused, which none of
 /// these is; `OutOfMemory`.
@@ -83,7 +83,7 @@ pub fn circom_table(alloc: Global, inputs: usize) -> Result<Vec<u8>, Error>
     ensures long { IfOk result (λ bytes. length bytes.items ≡ table_end inputs + 8) }
     ensures none { (inputs < 1) ⊎ (16 < inputs) → result ≡ Err (IncorrectInputLength inputs) }
     ensures refused { 1 ≤ inputs → inputs ≤ 16
-        → IfErr result (IsMatrixFault (circom_asked inputs)) }
+        → IfErr result (IsMatrixFault (circom_instance inputs)) }
 {
     if inputs < 1 || inputs > 16 {
         return Err(Error::IncorrectInputLength(inputs));
@@ -92,7 +92,7 @@ pub fn circom_table(alloc: Global, inputs: usize) -> Result<Vec<u8>, Error>
     let table = elements_for(alloc, inputs, &parameters)?;
     let mut bytes = Vec::new(alloc);
     bytes.push(inputs as u8)?;
-    put_kept(&mut bytes, &table)?;
+    put_forms(&mut bytes, &table)?;
     put_sum(&mut bytes)?;
     Ok(bytes)
 }
@@ -117,7 +117,7 @@ impl CircomTable {
         };
         let (_, rest) = bytes.split_at(1);
         let (numbers, _) = rest.split_at(32 * count_for(inputs));
-        let elements = match read_kept(alloc, numbers) {
+        let elements = match read_forms(alloc, numbers) {
             Ok(elements) => elements,
             Err(error) => return Err(error),
         };

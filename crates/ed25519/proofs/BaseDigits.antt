@@ -9,7 +9,7 @@ use Rattle.ark_wide_fields.specs.Choices.{ones, mask_for}
 use Rattle.edwards_numbers.specs.Edwards.{Coordinates, sum, neutral}
 use Rattle.edwards.specs.Extended.{Stands}
 use Rattle.edwards.proofs.Sums.{multiples_add}
-use Rattle.ed25519.specs.declared.base.Kept.{Kept}
+use Rattle.ed25519.specs.declared.base.Forms.{Forms}
 use Rattle.ed25519.specs.Edwards25519.{p, d, curve, base_point}
 use Rattle.ed25519.specs.Laws.Curve.{ed25519_is_complete}
 use Rattle.ed25519.specs.Laws.Base.{base_on_curve}
@@ -19,18 +19,18 @@ use Rattle.ed25519.specs.Multiples.{IsPreparedEntry, IsBlankEntry, every_fourth}
 use Rattle.ed25519.proofs.BaseRows.{unit_times}
 
 -- the multiple by a digit is that of its entry, and zero's for none
-pub kept_found : (digit mask : ℕ) (of_zero of_entry kept : Kept) (b : Coordinates) → mask ≡ mask_for (eqb 0 digit)
-    → (mask ≡ ones → IsBlankEntry of_entry → (s : Coordinates) → IsPreparedEntry of_zero s → IsPreparedEntry kept s)
-    → (mask ≡ 0 → (s : Coordinates) → IsPreparedEntry of_entry s → IsPreparedEntry kept s)
+pub forms_found : (digit mask : ℕ) (of_zero of_entry forms : Forms) (b : Coordinates) → mask ≡ mask_for (eqb 0 digit)
+    → (mask ≡ ones → IsBlankEntry of_entry → (s : Coordinates) → IsPreparedEntry of_zero s → IsPreparedEntry forms s)
+    → (mask ≡ 0 → (s : Coordinates) → IsPreparedEntry of_entry s → IsPreparedEntry forms s)
     → IsPreparedEntry of_zero neutral
     → (digit ≡ 0 → IsBlankEntry of_entry) → (0 < digit → IsPreparedEntry of_entry (times curve digit b))
-    → IsPreparedEntry kept (times curve digit b)
-kept_found digit mask of_zero of_entry kept b bits first second is_zero blank some = step (eqb 0 digit) refl
+    → IsPreparedEntry forms (times curve digit b)
+forms_found digit mask of_zero of_entry forms b bits first second is_zero blank some = step (eqb 0 digit) refl
   where
-    step : (c : Bool) → eqb 0 digit ≡ c → IsPreparedEntry kept (times curve digit b)
+    step : (c : Bool) → eqb 0 digit ≡ c → IsPreparedEntry forms (times curve digit b)
     step true is =
         let same : 0 ≡ digit = eqb-true 0 digit is in
-        subst (λ k. IsPreparedEntry kept (times curve k b)) same
+        subst (λ k. IsPreparedEntry forms (times curve k b)) same
         (first (bits ∙ ap mask_for is) (blank (sym same)) neutral is_zero)
     step false is =
         let other : 0 ≡ digit → ⊥ = eqb-false 0 digit is in

@@ -2,7 +2,7 @@
 use Rattle.std.specs.Prelude.{◌≡◌, ℕ, zero, suc, ◌+◌, ◌-◌, ◌*◌, ◌/◌, ◌%◌, ◌^◌}
 use Rattle.ark_groups.specs.Words.{number}
 use Rattle.edwards_numbers.specs.Edwards.{Coordinates}
-use Rattle.ed25519.specs.declared.base.Kept.{Kept}
+use Rattle.ed25519.specs.declared.base.Forms.{Forms}
 use Rattle.ed25519.specs.Edwards25519.{d}
 use Rattle.ed25519.specs.BaseTable.{in_montgomery_form}
 use Rattle.ed25519.specs.Edwards25519.{p}
@@ -12,14 +12,14 @@ unfoldable pub every_fourth : ℕ → ℕ → ℕ
 every_fourth zero n = 0
 every_fourth (suc k) n = every_fourth k n + n / 65536 ^ k % 16 * 65536 ^ k
 
--- three numbers are y - x, y + x and 2 d x y as the field keeps them
-pub record IsPreparedEntry (e : Kept) (a : Coordinates) : Type 0 where
+-- three numbers are the Montgomery forms of y - x, y + x and 2 d x y
+pub record IsPreparedEntry (e : Forms) (a : Coordinates) : Type 0 where
   pub less : number e.less ≡ in_montgomery_form (a.y + (p - a.x))
   pub more : number e.more ≡ in_montgomery_form (a.y + a.x)
   pub cross : number e.cross ≡ in_montgomery_form (2 * d * a.x * a.y)
 
--- three zeros, which no point is kept as
-pub record IsBlankEntry (e : Kept) : Type 0 where
+-- three zeros, which are the forms of no point
+pub record IsBlankEntry (e : Forms) : Type 0 where
   pub less : number e.less ≡ 0
   pub more : number e.more ≡ 0
   pub cross : number e.cross ≡ 0

@@ -16,26 +16,26 @@ use crate::base_table::{Row, base_row};
 use crate::combined::Four;
 use crate::moduli::Ed25519FpModulus;
 use ark_groups::ff::Words;
-use ark_wide_fields::{WideModulus, ZERO, of_kept, words_under};
+use ark_wide_fields::{WideModulus, ZERO, of_form, words_under};
 use edwards::{
     Entry, Prepared, doubled_twice, entry_under, found_entry, masks_of, plus_prepared, zero,
 };
 use std::simd::u64x2;
 
-// Of a point y - x, y + x and 2 d x y, each times 2^256 modulo 2^255 - 19.
+// Of a point y - x, y + x and 2 d x y, each in Montgomery form: times 2^256 modulo 2^255 - 19.
 #[derive(Clone, Copy)]
-struct Kept {
+struct Forms {
     less: Words,
     more: Words,
     cross: Words,
 }
 
-// The numbers of an entry of a row.
-fn kept_at(entry: &Entry) -> Kept
-    ensures kept { (a : Coordinates) → entry.now ≡ prepared_words a → IsPreparedEntry result a }
+// The forms that an entry of a row has.
+fn forms_at(entry: &Entry) -> Forms
+    ensures form { (a : Coordinates) → entry.now ≡ prepared_words a → IsPreparedEntry result a }
     ensures blank { entry.now ≡ no_entry → IsBlankEntry result }
 {
-    Kept {
+    Forms {
         less: Words {
             w0: entry[0][0],
             w1: entry[0][1],
@@ -57,11 +57,11 @@ fn kept_at(entry: &Entry) -> Kept
     }
 }
 
-// The numbers of zero.
-fn kept_zero() -> Kept
+// The forms of zero.
+fn forms_zero() -> Forms
     ensures { IsPreparedEntry result neutral }
 {
-    Kept {
+    Forms {
         less: Ed25519FpModulus::ONE,
         more: Ed25519FpModulus::ONE,
         cross: ZERO,
@@ -70,14 +70,14 @@ fn kept_zero() -> Kept
 
 // The first where the mask is ones and the other is blank; the other where the mask is 0.
 #[inline(always)]
-fn kept_under(mask: u64, a: Kept, so_far: Kept) -> Kept
+fn forms_under(mask: u64, a: Forms, so_far: Forms) -> Forms
     requires { IsMask mask }
     ensures first { mask ≡ ones → IsBlankEntry so_far → (s : Coordinates) → IsPreparedEntry a s
         → IsPreparedEntry result s }
     ensures second { mask ≡ 0 → (s : Coordinates) → IsPreparedEntry so_far s
         → IsPreparedEntry result s }
 {
-    Kept {
+    Forms {
         less: words_under(mask, a.less, so_far.less),
         more: words_under(mask, a.more, so_far.more),
         cross: words_under(mask, a.cross, so_far.cross),
@@ -99,26 +99,26 @@ fn entry_of_digit(row: &Row, masks: &[u64; 16], digit: usize) -> Entry
 }
 
 // The multiple of a point by a digit, from the row of its multiples, all of which is read.
-fn kept_multiple(row: &Row, digit: usize) -> Kept
+fn forms_multiple(row: &Row, digit: usize) -> Forms
     requires { digit < 16 }
     ensures { (b : Coordinates) → IsOnEd25519 b → row.now ≡ multiples_row b
         → IsPreparedEntry result (times curve digit b) }
 {
     let masks = masks_of(digit);
     let entry = entry_of_digit(row, &masks, digit);
-    kept_under(masks[0], kept_zero(), kept_at(&entry))
+    forms_under(masks[0], forms_zero(), forms_at(&entry))
 }
 
 // The point, prepared for a sum.
 #[inline(always)]
-fn prepared(e: Kept) -> Prepared<Ed25519FpModulus>
+fn prepared(e: Forms) -> Prepared<Ed25519FpModulus>
     requires { (a : Coordinates) × IsPreparedEntry e a }
     ensures { (a : Coordinates) → IsPreparedEntry e a → IsPrepared d result a }
 {
     Prepared {
-        less: of_kept(e.less),
-        more: of_kept(e.more),
-        cross: of_kept(e.cross),
+        less: of_form(e.less),
+        more: of_form(e.more),
+        cross: of_form(e.cross),
     }
 }
 
@@ -158,7 +158,7 @@ fn with_every_fourth(sum: Four, scalar: Words) -> Four
     let mut rest = scalar;
     for i in 0..16 {
         let digit = (rest.w0 % 16) as usize;
-        so_far = plus_prepared(so_far, prepared(kept_multiple(base_row(i), digit)));
+        so_far = plus_prepared(so_far, prepared(forms_multiple(base_row(i), digit)));
         rest = without_four(rest);
     }
     so_far

@@ -44,17 +44,17 @@ same_number j size below small =
     ]
 
 -- the words of an element, and zeros, are those of numbers
-pub kept_entry : (e : Jubjub) (words : List (List ℕ)) → words ≡ element_words e
+pub entry_forms : (e : Jubjub) (words : List (List ℕ)) → words ≡ element_words e
     → AreEntryWords words (value e.x) (value e.y) (value e.crossed)
-kept_entry e words are = record {
+entry_forms e words are = record {
   x_below = wide_below e.x;
   y_below = wide_below e.y;
   c_below = wide_below e.crossed;
   words_are = are;
 }
 
-pub kept_nothing : (words : List (List ℕ)) → words ≡ no_entry → AreEntryWords words 0 0 0
-kept_nothing words none = record {
+pub no_forms : (words : List (List ℕ)) → words ≡ no_entry → AreEntryWords words 0 0 0
+no_forms words none = record {
   x_below = omega arith;
   y_below = omega arith;
   c_below = omega arith;
@@ -71,14 +71,14 @@ is_number digit n mask bits full = step (eqb n digit) refl
         let none : mask ≡ 0 = bits ∙ ap mask_for is in
         absurd (omega (arith, none, full))
 
--- what is kept for zero
+-- the form of zero
 pub record IsZero (e : Jubjub) : Type 0 where
   pub x_is : value e.x ≡ 0
   pub y_is : value e.y ≡ 1
   pub crossed_is : value e.crossed ≡ 0
 
-zero_kept : IsZero jubjub.identity
-zero_kept =
+zero_form : IsZero jubjub.identity
+zero_form =
     let e = jubjub.identity in
     record {
       x_is = ap (λ (a : Coordinates). a.x) at-identity;
@@ -87,7 +87,7 @@ zero_kept =
     }
 
 pub zero_at : (xs : List Jubjub) (first size : ℕ) → size ≡ 0 → IsZero (entry_at xs first size)
-zero_at xs first size none = subst (λ n. IsZero (entry_at xs first n)) (sym none) zero_kept
+zero_at xs first size none = subst (λ n. IsZero (entry_at xs first n)) (sym none) zero_form
 
 -- 2 d x y of the negative
 crossed_turned : (q k x y : ℕ) → 0 < q → x < q → (q - 2 * k * x * y % q) % q ≡ 2 * k * ((q - x) % q) * y % q

@@ -13,7 +13,7 @@ Fr = Fp256 Bls12_381FrModulus ghosts
 
 -- the number that an element of the field is
 abbrev pub value : Fr → ℕ
-value x = value_of ghosts.P ghosts.INVERSE x.kept
+value x = value_of ghosts.P ghosts.INVERSE x.form
 
 -- the scalars
 abbrev pub Scalar : Type 0
@@ -21,4 +21,4 @@ Scalar = Fp256 JubjubFrModulus scalar_ghosts
 
 -- the number that a scalar is
 abbrev pub scalar_value : Scalar → ℕ
-scalar_value s = value_of scalar_ghosts.P scalar_ghosts.INVERSE s.kept
+scalar_value s = value_of scalar_ghosts.P scalar_ghosts.INVERSE s.form

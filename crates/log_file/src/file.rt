@@ -8,13 +8,13 @@ ghost use Rattle.log_file.specs.Faults.{log_size};
 ghost use Rattle.log_file.specs.LogFile.{file_end, file_head, stored_in};
 
 use crate::fault::Fault;
-use crate::head::{Head, START, fault_without_head, head_in};
+use crate::head::{FileHead, START, fault_without_head, head_in};
 use merkle_log::kept::{Kept, is_size, stored_count};
 
 /// The log of a file: its head, and its stored digests.
 #[derive(Drop)]
 pub struct LogFile<'a> {
-    pub head: Head,
+    pub head: FileHead,
     pub kept: Kept<'a>,
 }
 

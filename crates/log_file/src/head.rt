@@ -17,9 +17,9 @@ pub const START: usize = 96;
 /// How the file of a log begins.
 pub const TITLE: [u8; 32] = *b"paxidore log, digests of SHA-256";
 
-/// The size of a log, and the slot that takes the next one.
+/// What the head of a log's file says: the size, and the slot that takes the next one.
 #[derive(Clone, Copy)]
-pub struct Head {
+pub struct FileHead {
     pub size: usize,
     /// Whether that is the second slot.
     pub is_second_next: bool,
@@ -146,7 +146,7 @@ fn slot_fits(bytes: &[u8; 32], size: usize, root: &[u8; 32]) -> bool
 }
 
 // The larger size, and the slot that has another.
-fn larger(first: Option<usize>, second: Option<usize>) -> Option<Head>
+fn larger(first: Option<usize>, second: Option<usize>) -> Option<FileHead>
     ensures { let seen = option_map (λ head. (head.size, head.is_second_next)) result in
         seen ≡ larger first second }
 {
@@ -156,7 +156,7 @@ fn larger(first: Option<usize>, second: Option<usize>) -> Option<Head>
         (None, Some(_)) => false,
     };
     let size = if is_second_next { first? } else { second? };
-    Some(Head {
+    Some(FileHead {
         size,
         is_second_next,
     })
@@ -181,7 +181,7 @@ pub fn has_title(bytes: &[u8]) -> bool
 }
 
 /// Returns what the slots of a head say, whatever its title: the larger size of those that are whole. `None` where neither is.
-pub fn slots_in(bytes: &[u8]) -> Option<Head>
+pub fn slots_in(bytes: &[u8]) -> Option<FileHead>
     requires { 96 ≤ length bytes.now }
     ensures { let seen = option_map (λ head. (head.size, head.is_second_next)) result in
         seen ≡ slots_head bytes.now }
@@ -194,7 +194,7 @@ pub fn slots_in(bytes: &[u8]) -> Option<Head>
 
 /// Returns the head of a log's file; `None` where the bytes are those of no log's. The larger size of the slots that are
 /// whole is the log's.
-pub fn head_in(bytes: &[u8]) -> Option<Head>
+pub fn head_in(bytes: &[u8]) -> Option<FileHead>
     ensures { let seen = option_map (λ head. (head.size, head.is_second_next)) result in
         seen ≡ file_head bytes.now }
 {

@@ -8,10 +8,10 @@ ghost use Rattle.log_store.specs.Sound.{placed};
 ghost use Rattle.log_file.specs.Faults.{log_size};
 ghost use Rattle.log_file.specs.LogFile.{file_end, IsLogFile};
 
+use crate::ahead::{digest_in, look_at, none_ahead};
 use crate::disk::Disk;
 use crate::log::read_log;
 use crate::stop::Stop;
-use crate::window::{digest_in, no_window, window_at};
 use merkle_log::kept::{position_of, stored_count};
 
 // Returns the first of so many entries whose stored digest is this one.
@@ -25,14 +25,12 @@ fn first_with<D: Disk>(
     ensures { D.Obeys disk.now → file_end size ≤ length (D.seen disk.now)
         → IfOk result (IsFirstOf (placed (D.seen disk.now) 0) size digest.now) }
 {
-    let mut window = no_window();
+    let mut ahead = none_ahead();
     let mut index = 0;
     'entries: while index < size {
         let position = position_of(0, index);
-        if window.start + window.count <= position {
-            window = window_at(disk, position, stored_count(size))?;
-        }
-        let found = digest_in(&window, disk, position)?;
+        look_at(&mut ahead, disk, position, stored_count(size))?;
+        let found = digest_in(&ahead, disk, position)?;
         if found != *digest {
             index += 1;
         } else {
@@ -43,7 +41,7 @@ fn first_with<D: Disk>(
 }
 
 /// Returns the first index at which a log has an entry with this digest; none where it has none. It reads the digests from the front
-/// on, 128 at a time, and checks none of them but those of the right edge.
+/// on, 512 at a time, and checks none of them but those of the right edge.
 ///
 /// Errors, the first that applies: those of `root` for all entries.
 pub fn find<D: Disk>(disk: &D, digest: &[u8; 32]) -> Result<Option<usize>, Stop<D::Refusal>>

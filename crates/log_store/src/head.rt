@@ -11,7 +11,7 @@ ghost use Rattle.log_file.specs.LogFile.{file_end, file_head, IsLogFile};
 use crate::disk::Disk;
 use crate::stop::Stop;
 use log_file::fault::Fault;
-use log_file::head::{Head, START, fault_without_head, head_in};
+use log_file::head::{FileHead, START, fault_without_head, head_in};
 use merkle_log::kept::{is_size, stored_count};
 
 // Returns whether so many digests are as many as a log of this size has.
@@ -34,13 +34,13 @@ fn length_again<D: Disk>(disk: &D, before: usize) -> Result<usize, D::Refusal>
 /// The head of a log's file, and its bytes.
 #[derive(Clone, Copy)]
 pub struct ReadHead {
-    pub head: Head,
+    pub head: FileHead,
     pub bytes: [u8; START],
 }
 
 /// Reads the head of a log's file, and then how long the file is: digests are written before a head that says their size.
 ///
-/// Errors: `NoLog`; `Head`; `Short`, also for a size of over 63 bits; the disk's refusal.
+/// Errors: `NoLog`; `HeadDamaged`; `Short`, also for a size of over 63 bits; the disk's refusal.
 pub fn read_head<D: Disk>(disk: &D) -> Result<ReadHead, Stop<D::Refusal>>
     ensures size { D.Obeys disk.now → IfOk result (λ read.
         log_size (D.seen disk.now) ≡ Ok read.head.size) }

@@ -6,6 +6,7 @@
 #![tactic(auto)]
 
 mod again;
+mod ahead;
 pub mod disk;
 mod edge;
 mod finding;
@@ -23,9 +24,9 @@ mod sound;
 mod spots;
 mod steps;
 mod stop;
-mod window;
 
 pub use again::rewrite_head;
+pub use ahead::{Ahead, digest_in, look_at, none_ahead};
 pub use disk::Disk;
 pub use edge::read_digest;
 pub use finding::find;

@@ -12,12 +12,12 @@ ghost use Rattle.log_store.specs.Sound.{HasStored};
 ghost use Rattle.log_store.specs.Store.{IsAllFresh, IsNewFile, IsHeadless, IsSettled, LeavesJust};
 ghost use Rattle.log_file.specs.LogFile.{file_end, slots_head, IsLogFile};
 
+use crate::ahead::{PART, read_ahead};
 use crate::disk::Disk;
 use crate::edge::root_at;
 use crate::sound::sound_front;
 use crate::steps::write_head;
 use crate::stop::Stop;
-use crate::window::{PART, read_ahead};
 use log_file::fault::Fault;
 use log_file::head::{START, has_title, head_bytes, slots_in};
 use merkle_log::kept::stored_count;

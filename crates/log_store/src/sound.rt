@@ -8,37 +8,37 @@ ghost use Rattle.log_store.specs.Sound.{AreNodes, IsAhead};
 ghost use Rattle.log_file.specs.Faults.{log_size};
 ghost use Rattle.log_file.specs.LogFile.{file_end, IsLogFile};
 
+use crate::ahead::{Ahead, digest_in, look_at, none_ahead};
 use crate::disk::Disk;
 use crate::log::read_log;
 use crate::stop::Stop;
-use crate::window::{Window, digest_in, no_window, window_at};
 use ark_crh::ArrayHash;
 use ark_trees::LogHasher;
 use log_file::fault::Fault;
 use merkle_log::kept::{position_of, stored_count};
 
 // Returns whether each digest that an entry completes is the hash of its two.
-fn is_completed<D: Disk>(disk: &D, window: &Window, index: usize) -> Result<bool, D::Refusal>
+fn is_completed<D: Disk>(disk: &D, ahead: &Ahead, index: usize) -> Result<bool, D::Refusal>
     requires fits { index + 1 < 2 ^ 63 }
     requires near { file_end (index + 1) < 2 ^ 64 }
-    requires ahead { window.now.count ≤ 128 }
+    requires ahead { ahead.now.count ≤ 512 }
     ensures sound { D.Obeys disk.now
-        → IsAhead window.now.start window.now.count window.now.bytes (D.seen disk.now)
+        → IsAhead ahead.now.start ahead.now.count ahead.now.bytes (D.seen disk.now)
         → file_end (index + 1) ≤ length (D.seen disk.now) → AreNodes (D.seen disk.now) index
         → result ≡ Ok true → AreNodes (D.seen disk.now) (index + 1) }
     ensures damaged { D.Obeys disk.now
-        → IsAhead window.now.start window.now.count window.now.bytes (D.seen disk.now)
+        → IsAhead ahead.now.start ahead.now.count ahead.now.bytes (D.seen disk.now)
         → file_end (index + 1) ≤ length (D.seen disk.now)
         → result ≡ Ok false → AreNodes (D.seen disk.now) (index + 1) → ⊥ }
 {
-    let mut own = digest_in(window, disk, position_of(0, index))?;
+    let mut own = digest_in(ahead, disk, position_of(0, index))?;
     let mut level = 0;
     let mut left = index;
     'odd: while left % 2 == 1 {
-        let other = digest_in(window, disk, position_of(level, left - 1))?;
+        let other = digest_in(ahead, disk, position_of(level, left - 1))?;
         left /= 2;
         level += 1;
-        let above = digest_in(window, disk, position_of(level, left))?;
+        let above = digest_in(ahead, disk, position_of(level, left))?;
         if LogHasher::node(&other, &own) != above {
             return Ok(false);
         }
@@ -56,7 +56,7 @@ fn is_next(index: usize, limit: usize, count: usize) -> bool
 }
 
 /// Returns how many entries of a file have stored digests that are those of a log, of at most so many entries and digests. It
-/// reads the digests from the front on, 128 at a time.
+/// reads the digests from the front on, 512 at a time.
 pub fn sound_front<D: Disk>(disk: &D, count: usize, limit: usize) -> Result<usize, D::Refusal>
     requires fits { limit < 2 ^ 63 }
     requires near { 96 + 32 * count < 2 ^ 64 }
@@ -68,13 +68,11 @@ pub fn sound_front<D: Disk>(disk: &D, count: usize, limit: usize) -> Result<usiz
         → IfOk result (λ size. size < limit → stored_count (size + 1) ≤ count
         → AreNodes (D.seen disk.now) (size + 1) → ⊥) }
 {
-    let mut window = no_window();
+    let mut ahead = none_ahead();
     let mut size = 0;
     'entries: while is_next(size, limit, count) {
-        if window.start + window.count < stored_count(size + 1) {
-            window = window_at(disk, stored_count(size), count)?;
-        }
-        if !is_completed(disk, &window, size)? {
+        look_at(&mut ahead, disk, stored_count(size), count)?;
+        if !is_completed(disk, &ahead, size)? {
             return Ok(size);
         }
         size += 1;

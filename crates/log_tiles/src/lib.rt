@@ -2,7 +2,6 @@
 //! read of tiles by whoever follows it.
 #![tactic(auto)]
 
-mod ahead;
 mod bundles;
 mod by_proof;
 mod folder;

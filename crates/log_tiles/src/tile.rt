@@ -6,10 +6,9 @@ ghost use Rattle.merkle_log.specs.Walk.{index_up};
 ghost use Rattle.log_file.specs.LogFile.{file_end};
 ghost use Rattle.log_store.specs.Sound.{IsAhead};
 
-use crate::ahead::{Ahead, digest_ahead, look_at, none_ahead};
 use crate::growth::row_length;
 use log_file::fault::Fault;
-use log_store::{Disk, Stop};
+use log_store::{Ahead, Disk, Stop, digest_in, look_at, none_ahead};
 use merkle_log::kept::{position_of, stored_count};
 
 /// How many digests a full tile has.
@@ -52,8 +51,8 @@ fn read_place<D: Disk>(
     requires inside { place < index_up level size }
     requires fits { size < 2 ^ 63 }
     requires near { file_end size < 2 ^ 64 }
-    requires window { ahead.old.count ≤ 512 }
-    ensures window { IfOk result (λ digest. ahead.new.count ≤ 512) }
+    requires count { ahead.old.count ≤ 512 }
+    ensures count { IfOk result (λ digest. ahead.new.count ≤ 512) }
     ensures ahead { D.Obeys disk.now → file_end size ≤ length (D.seen disk.now)
         → IsAhead ahead.old.start ahead.old.count ahead.old.bytes (D.seen disk.now) → IfOk result
         (λ digest. IsAhead ahead.new.start ahead.new.count ahead.new.bytes (D.seen disk.now)) }
@@ -63,7 +62,8 @@ fn read_place<D: Disk>(
 {
     let position = position_of(level, place);
     look_at(ahead, disk, position, stored_count(size))?;
-    Ok(digest_ahead(ahead, position))
+    let digest = digest_in(ahead, disk, position)?;
+    Ok(digest)
 }
 
 // Writes a digest to a place.

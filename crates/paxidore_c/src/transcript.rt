@@ -15,7 +15,7 @@ use ark_sponge::poseidon::PoseidonConfig;
 use ark_wide_fields::{Bls12_381Fr, Bn254Fr};
 use paxidore_calls::buffer::hand_over;
 use paxidore_calls::refused::Refused;
-use paxidore_calls::transcript::forms::{Kept, Own};
+use paxidore_calls::transcript::forms::{Scaled, Own};
 use paxidore_calls::transcript::parameters::prepared_bytes;
 use paxidore_calls::transcript::steps::{
     Given, begun, bytes_given, elements_squeezed, with_bytes, with_elements,
@@ -34,8 +34,8 @@ macro_rules! in_field {
             4 => $call::<Bn254Fr, Power, Own>($($argument),+),
             257 => $call::<Fp<Goldilocks>, Power, Own>($($argument),+),
             258 => $call::<Fp<BabyBear>, Power, Own>($($argument),+),
-            259 => $call::<Bls12_381Fr, Power, Kept>($($argument),+),
-            260 => $call::<Bn254Fr, Power, Kept>($($argument),+),
+            259 => $call::<Bls12_381Fr, Power, Scaled>($($argument),+),
+            260 => $call::<Bn254Fr, Power, Scaled>($($argument),+),
             _ => Err(Refused::Invalid),
         }
     };
@@ -307,8 +307,8 @@ fn prepared_over(alloc: Global, field: u32, parameters: &[u8]) -> Result<Vec<u8>
     match field {
         1 => prepared_bytes::<Fp<Goldilocks>, Own>(alloc, parameters),
         2 => prepared_bytes::<Fp<BabyBear>, Own>(alloc, parameters),
-        3 => prepared_bytes::<Bls12_381Fr, Kept>(alloc, parameters),
-        4 => prepared_bytes::<Bn254Fr, Kept>(alloc, parameters),
+        3 => prepared_bytes::<Bls12_381Fr, Scaled>(alloc, parameters),
+        4 => prepared_bytes::<Bn254Fr, Scaled>(alloc, parameters),
         _ => Err(Refused::Invalid),
     }
 }

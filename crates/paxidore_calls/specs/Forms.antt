@@ -22,8 +22,8 @@ unfoldable pub divided : ℕ → ℕ → ℕ
 divided p n = n * ((p + 1) / 2) ^ 256 % p
 
 -- n as the number n * 2^256 modulo p, in as many bytes as canonical bytes have
-abbrev pub kept_form : ℕ → ℕ → Form
-kept_form p bits = record {
+abbrev pub scaled_form : ℕ → ℕ → Form
+scaled_form p bits = record {
   spells = λ n. bytes_of_number (bytes_for bits) (n * 2 ^ 256 % p);
   reads = made_at (divided p) (below_at p (bytes_for bits));
 }

@@ -15,7 +15,7 @@ use Rattle.ark_sponge.specs.Squeezing.{native_squeezed, bytes_squeezed}
 use Rattle.ark_sponge.specs.declared.mode.DuplexSpongeMode.{DuplexSpongeMode}
 use Rattle.ark_sponge.specs.declared.mode.DuplexSpongeMode.TheVariants.{Absorbing, Squeezing}
 use Rattle.paxidore_calls.specs.Answer.{GivesCode, only_if, refusing, written_code}
-use Rattle.paxidore_calls.specs.Forms.{Form, kept_form, own_form}
+use Rattle.paxidore_calls.specs.Forms.{Form, scaled_form, own_form}
 use Rattle.paxidore_calls.specs.declared.refused.Refused.{Refused}
 use Rattle.paxidore_calls.specs.declared.refused.Refused.TheVariants.{Invalid, Truncated}
 
@@ -37,7 +37,7 @@ field_size modulus bits = formed modulus bits (own_form modulus bits)
 
 -- a field of four words, with prepared parameters
 abbrev pub with_prepared : FieldSize → FieldSize
-with_prepared f = formed f.modulus f.bits (kept_form f.modulus f.bits)
+with_prepared f = formed f.modulus f.bits (scaled_form f.modulus f.bits)
 
 -- 2^64 - 2^32 + 1
 abbrev pub goldilocks : FieldSize

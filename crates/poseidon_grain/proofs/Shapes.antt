@@ -7,7 +7,7 @@ use Rattle.ark_base.specs.declared.error.Error.{Error}
 use Rattle.ark_base.specs.declared.error.Error.TheVariants.{GenericError}
 use Rattle.ark_base.specs.declared.error.Refusal.TheVariants.{FieldTooSmall, ParameterShape, ZeroRate}
 use Rattle.ark_sponge.specs.Permutation.{Parameters, has_poseidon_shape, is_matrix, lawful_parameters, width}
-use Rattle.poseidon_grain.specs.Constants.{AreGenerated, Asked, IsCauchy, IsParameterFault, constants_drawn, xs_drawn, ys_drawn}
+use Rattle.poseidon_grain.specs.Constants.{AreGenerated, Instance, IsCauchy, IsParameterFault, constants_drawn, xs_drawn, ys_drawn}
 use Rattle.poseidon_grain.specs.Grain.{below_drawn, list_drawn, remainder_drawn, seeded}
 
 -- ---- lists that are drawn
@@ -42,7 +42,7 @@ rows-long len (row ∷ rows) each =
 
 -- ---- the shape of parameters
 
-module _ (a : Asked) where
+module _ (a : Instance) where
   constants-matrix : is_matrix (a.full_rounds + a.partial_rounds) a.width (constants_drawn a).0 ≡ true
   constants-matrix =
       let element = below_drawn a.modulus a.digits in

@@ -9,9 +9,9 @@ use Rattle.ark_sponge.specs.Permutation.{Parameters}
 use Rattle.ark_wide_fields.specs.Inverses.{AreInverses}
 use Rattle.poseidon_grain.specs.Grain.{seeded, below_drawn, remainder_drawn, list_drawn}
 
--- What the generator is asked for: the modulus, its count of digits, the width of a state, the counts of rounds, and
--- how many matrices are passed over.
-pub record Asked : Type 0 where
+-- An instance of Poseidon, as the generator is asked for it: the modulus, its count of digits, the width of a state,
+-- the counts of rounds, and how many matrices are passed over.
+pub record Instance : Type 0 where
   pub modulus : ℕ
   pub digits : ℕ
   pub width : ℕ
@@ -20,23 +20,23 @@ pub record Asked : Type 0 where
   pub passed_over : ℕ
 
 -- a row of constants below the modulus for each round, and the register behind them
-abbrev pub constants_drawn : Asked → List (List ℕ) × ℕ
+abbrev pub constants_drawn : Instance → List (List ℕ) × ℕ
 constants_drawn a =
     let row = list_drawn (below_drawn a.modulus a.digits) a.width in
     list_drawn row (a.full_rounds + a.partial_rounds) (seeded a.digits a.width a.full_rounds a.partial_rounds)
 
 -- so many numbers modulo the modulus, and the register behind them
-abbrev pub remainders_drawn : Asked → ℕ → ℕ → List ℕ × ℕ
+abbrev pub remainders_drawn : Instance → ℕ → ℕ → List ℕ × ℕ
 remainders_drawn a count register = list_drawn (remainder_drawn a.modulus a.digits) count register
 
 -- The first list of the matrix, a number for each element of a state, behind two such lists for each matrix that is
 -- passed over.
-abbrev pub xs_drawn : Asked → List ℕ × ℕ
+abbrev pub xs_drawn : Instance → List ℕ × ℕ
 xs_drawn a =
     remainders_drawn a a.width (remainders_drawn a (2 * a.width * a.passed_over) (constants_drawn a).1).1
 
 -- the second list of the matrix
-abbrev pub ys_drawn : Asked → List ℕ × ℕ
+abbrev pub ys_drawn : Instance → List ℕ × ℕ
 ys_drawn a = remainders_drawn a a.width (xs_drawn a).1
 
 -- ---- the matrix
@@ -79,19 +79,19 @@ counts_fit width full partial passed_over =
     && nat_lt passed_over 65536
 
 -- the constants and the matrix are those of the generator
-pub record AreGenerated (a : Asked) (ark mds : List (List ℕ)) : Type 0 where
+pub record AreGenerated (a : Instance) (ark mds : List (List ℕ)) : Type 0 where
   pub constants : ark ≡ (constants_drawn a).0
   pub matrix : IsCauchy a.modulus (xs_drawn a).0 (ys_drawn a).0 mds
   pub rows : has_twice (xs_drawn a).0 ≡ false
   pub columns : has_twice (ys_drawn a).0 ≡ false
 
 -- the generator's matrix is refused
-abbrev pub IsMatrixRefused : Asked → Type 0
+abbrev pub IsMatrixRefused : Instance → Type 0
 IsMatrixRefused a = IsRefused a.modulus (xs_drawn a).0 (ys_drawn a).0
 
--- what is asked for of a modulus with its count of digits
-abbrev pub asked_of : ℕ → ℕ → ℕ → ℕ → ℕ → ℕ → Asked
-asked_of modulus digits width full partial passed_over = record {
+-- the instance over a modulus with its count of digits
+abbrev pub instance_of : ℕ → ℕ → ℕ → ℕ → ℕ → ℕ → Instance
+instance_of modulus digits width full partial passed_over = record {
   modulus = modulus;
   digits = digits;
   width = width;
@@ -101,7 +101,7 @@ asked_of modulus digits width full partial passed_over = record {
 }
 
 -- parameters of a rate and a capacity, over the generator's constants and matrix
-pub record AreParameters (a : Asked) (elements hidden exponent : ℕ) (c : Parameters) : Type 0 where
+pub record AreParameters (a : Instance) (elements hidden exponent : ℕ) (c : Parameters) : Type 0 where
   pub generated : AreGenerated a c.ark c.mds
   pub rate : c.rate ≡ elements
   pub capacity : c.capacity ≡ hidden
@@ -120,6 +120,6 @@ IsParameterFault digits rate error =
     ⊎ ((9 ≤ digits) × (rate ≡ 0) × (error ≡ GenericError ZeroRate))
 
 -- Counts that stand fixed are refused: for a lack of memory, or for the generator's matrix.
-abbrev pub IsMatrixFault : Asked → Error → Type 0
+abbrev pub IsMatrixFault : Instance → Error → Type 0
 IsMatrixFault a error =
     (error ≡ OutOfMemory) ⊎ (IsMatrixRefused a × (error ≡ GenericError ParameterShape))

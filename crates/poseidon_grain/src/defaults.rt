@@ -3,7 +3,7 @@
 ghost use Rattle.std.specs.Prelude.{◌≡◌, ◌+◌, ℕ, Bool, true, false, Option, Some, None, IfErr, IfOk, IfSome, IsNone, MatchOption, Ok, Err};
 ghost use Rattle.ark_base.specs.declared.error.Error.TheVariants.{GenericError};
 ghost use Rattle.ark_base.specs.declared.error.Refusal.TheVariants.{ParameterShape};
-ghost use Rattle.poseidon_grain.specs.Constants.{asked_of, counts_fit, AreParameters, IsMatrixRefused, IsParameterFault};
+ghost use Rattle.poseidon_grain.specs.Constants.{instance_of, counts_fit, AreParameters, IsMatrixRefused, IsParameterFault};
 ghost use Rattle.poseidon_grain.specs.Defaults.{Counts};
 
 use crate::parameters::poseidon_parameters;
@@ -80,14 +80,14 @@ pub fn get_default_poseidon_parameters<F: PoseidonDefaultConfig>(
 ) -> Result<Option<PoseidonConfig<F>>, Error>
     ensures made { (n : Counts) → F.counts rate optimized_for_weights ≡ Some n
         → IfOk result (λ found. IfSome found (λ c.
-        AreParameters (asked_of F.MODULUS F.MODULUS_BIT_SIZE (rate + 1) n.full n.partial 0)
+        AreParameters (instance_of F.MODULUS F.MODULUS_BIT_SIZE (rate + 1) n.full n.partial 0)
         rate 1 n.exponent c)) }
     ensures none { F.counts rate optimized_for_weights ≡ None → result ≡ Ok None }
 
     // Where the field has counts, there are none only of a matrix that is refused.
     ensures matrix { (n : Counts) → F.counts rate optimized_for_weights ≡ Some n
         → IfOk result (λ found. IsNone found → IsMatrixRefused
-        (asked_of F.MODULUS F.MODULUS_BIT_SIZE (rate + 1) n.full n.partial 0)) }
+        (instance_of F.MODULUS F.MODULUS_BIT_SIZE (rate + 1) n.full n.partial 0)) }
     ensures shape { (n : Counts) → F.counts rate optimized_for_weights ≡ Some n
         → counts_fit (rate + 1) n.full n.partial 0 ≡ false
         → result ≡ Err (GenericError ParameterShape) }

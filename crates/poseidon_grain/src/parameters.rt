@@ -1,7 +1,7 @@
 //! Constants, matrices and parameters of a field.
 
 ghost use Rattle.std.specs.Prelude.{◌≡◌, ◌+◌, true, false, map, IfOk, IfErr, IfSome, IsNone, Err};
-ghost use Rattle.poseidon_grain.specs.Constants.{asked_of, counts_fit, AreGenerated, AreParameters, IsMatrixRefused, IsParameterFault};
+ghost use Rattle.poseidon_grain.specs.Constants.{instance_of, counts_fit, AreGenerated, AreParameters, IsMatrixRefused, IsParameterFault};
 
 use crate::draws::{pass_over, remainders, rows_of_constants};
 use crate::matrix::cauchy_matrix;
@@ -27,12 +27,12 @@ fn constants_and_matrix<F: InvertibleField>(
     skip_matrices: usize,
 ) -> Result<Option<(Vec<Vec<F>>, Vec<Vec<F>>)>, Error>
     ensures generated { IfOk result (λ found. IfSome found (λ made.
-        AreGenerated (asked_of F.MODULUS F.MODULUS_BIT_SIZE width full_rounds
+        AreGenerated (instance_of F.MODULUS F.MODULUS_BIT_SIZE width full_rounds
         partial_rounds skip_matrices)
         (map (λ row. map F.value row.items) made.0.items)
         (map (λ row. map F.value row.items) made.1.items))) }
     ensures none { IfOk result (λ found. IsNone found
-        → IsMatrixRefused (asked_of F.MODULUS F.MODULUS_BIT_SIZE width full_rounds
+        → IsMatrixRefused (instance_of F.MODULUS F.MODULUS_BIT_SIZE width full_rounds
         partial_rounds skip_matrices)) }
     ensures shape { counts_fit width full_rounds partial_rounds skip_matrices ≡ false
         → result ≡ Err (Error.GenericError Refusal.ParameterShape) }
@@ -73,12 +73,12 @@ pub fn find_poseidon_ark_and_mds<F: InvertibleField>(
     skip_matrices: usize,
 ) -> Result<Option<(Vec<Vec<F>>, Vec<Vec<F>>)>, Error>
     ensures generated { IfOk result (λ found. IfSome found (λ made.
-        AreGenerated (asked_of F.MODULUS F.MODULUS_BIT_SIZE (rate + 1) full_rounds
+        AreGenerated (instance_of F.MODULUS F.MODULUS_BIT_SIZE (rate + 1) full_rounds
         partial_rounds skip_matrices)
         (map (λ row. map F.value row.items) made.0.items)
         (map (λ row. map F.value row.items) made.1.items))) }
     ensures none { IfOk result (λ found. IsNone found
-        → IsMatrixRefused (asked_of F.MODULUS F.MODULUS_BIT_SIZE (rate + 1) full_rounds
+        → IsMatrixRefused (instance_of F.MODULUS F.MODULUS_BIT_SIZE (rate + 1) full_rounds
         partial_rounds skip_matrices)) }
     ensures shape { counts_fit (rate + 1) full_rounds partial_rounds skip_matrices ≡ false
         → result ≡ Err (Error.GenericError Refusal.ParameterShape) }
@@ -105,10 +105,10 @@ pub fn poseidon_parameters<F: InvertibleField>(
     skip_matrices: usize,
 ) -> Result<Option<PoseidonConfig<F>>, Error>
     ensures generated { IfOk result (λ found. IfSome found (λ c.
-        AreParameters (asked_of F.MODULUS F.MODULUS_BIT_SIZE (rate + capacity) full_rounds
+        AreParameters (instance_of F.MODULUS F.MODULUS_BIT_SIZE (rate + capacity) full_rounds
         partial_rounds skip_matrices) rate capacity alpha c)) }
     ensures none { IfOk result (λ found. IsNone found
-        → IsMatrixRefused (asked_of F.MODULUS F.MODULUS_BIT_SIZE (rate + capacity) full_rounds
+        → IsMatrixRefused (instance_of F.MODULUS F.MODULUS_BIT_SIZE (rate + capacity) full_rounds
         partial_rounds skip_matrices)) }
     ensures shape { counts_fit (rate + capacity) full_rounds partial_rounds skip_matrices ≡ false
         → result ≡ Err (Error.GenericError Refusal.ParameterShape) }

@@ -2,7 +2,7 @@
 
 ghost use Rattle.std.specs.Prelude.{◌≡◌, ◌<◌, ◌≤◌, ◌+◌, ◌-◌, ◌⊎◌, true, false, IfOk, IfErr, IfSome, Ok, Err};
 ghost use Rattle.ark_base.specs.declared.error.Error.TheVariants.{IncorrectInputLength};
-ghost use Rattle.poseidon_grain.specs.Constants.{asked_of, counts_fit, AreParameters, IsMatrixFault};
+ghost use Rattle.poseidon_grain.specs.Constants.{instance_of, counts_fit, AreParameters, IsMatrixFault};
 ghost use Rattle.poseidon_grain.specs.Defaults.{circom_rounds, baby_bear_rounds};
 
 use crate::parameters::poseidon_parameters;
@@ -21,11 +21,11 @@ fn of_rounds<F: InvertibleField>(
     partial_rounds: usize,
 ) -> Result<PoseidonConfig<F>, Error>
     ensures made { IfOk result (λ c.
-        AreParameters (asked_of F.MODULUS F.MODULUS_BIT_SIZE (rate + capacity) 8 partial_rounds 0)
-        rate capacity alpha c) }
+        AreParameters (instance_of F.MODULUS F.MODULUS_BIT_SIZE (rate + capacity) 8 partial_rounds
+        0) rate capacity alpha c) }
     ensures refused { 9 ≤ F.MODULUS_BIT_SIZE → 1 ≤ rate
         → counts_fit (rate + capacity) 8 partial_rounds 0 ≡ true
-        → IfErr result (IsMatrixFault (asked_of F.MODULUS F.MODULUS_BIT_SIZE (rate + capacity)
+        → IfErr result (IsMatrixFault (instance_of F.MODULUS F.MODULUS_BIT_SIZE (rate + capacity)
         8 partial_rounds 0)) }
 {
     match poseidon_parameters::<F>(alloc, rate, capacity, alpha, 8, partial_rounds, 0)? {
@@ -68,11 +68,12 @@ pub fn circom_rounds(inputs: usize) -> usize
 /// none of these is; `OutOfMemory`.
 pub fn circom_parameters(alloc: Global, inputs: usize) -> Result<PoseidonConfig<Bn254Fr>, Error>
     ensures made { IfOk result (λ c.
-        AreParameters (asked_of ⟦<Bn254Fr as Field>⟧.MODULUS ⟦<Bn254Fr as Field>⟧.MODULUS_BIT_SIZE
-        (inputs + 1) 8 (circom_rounds inputs) 0) inputs 1 5 c) }
+        AreParameters (instance_of ⟦<Bn254Fr as Field>⟧.MODULUS
+        ⟦<Bn254Fr as Field>⟧.MODULUS_BIT_SIZE (inputs + 1) 8 (circom_rounds inputs) 0)
+        inputs 1 5 c) }
     ensures none { (inputs < 1) ⊎ (16 < inputs) → result ≡ Err (IncorrectInputLength inputs) }
     ensures refused { 1 ≤ inputs → inputs ≤ 16 → IfErr result (IsMatrixFault
-        (asked_of ⟦<Bn254Fr as Field>⟧.MODULUS ⟦<Bn254Fr as Field>⟧.MODULUS_BIT_SIZE
+        (instance_of ⟦<Bn254Fr as Field>⟧.MODULUS ⟦<Bn254Fr as Field>⟧.MODULUS_BIT_SIZE
         (inputs + 1) 8 (circom_rounds inputs) 0)) }
 {
     if inputs < 1 || inputs > 16 {
@@ -91,12 +92,12 @@ pub fn goldilocks_parameters(
     width: usize,
 ) -> Result<PoseidonConfig<Fp<Goldilocks>>, Error>
     ensures made { IfOk result (λ c.
-        AreParameters (asked_of ⟦<Fp<Goldilocks> as Field>⟧.MODULUS
+        AreParameters (instance_of ⟦<Fp<Goldilocks> as Field>⟧.MODULUS
         ⟦<Fp<Goldilocks> as Field>⟧.MODULUS_BIT_SIZE width 8 22 0) (width - 4) 4 7 c) }
     ensures none { (width ≡ 8 → ⊥) × (width ≡ 12 → ⊥) × (width ≡ 16 → ⊥)
         → result ≡ Err (IncorrectInputLength width) }
     ensures refused { (width ≡ 8) ⊎ (width ≡ 12) ⊎ (width ≡ 16) → IfErr result (IsMatrixFault
-        (asked_of ⟦<Fp<Goldilocks> as Field>⟧.MODULUS
+        (instance_of ⟦<Fp<Goldilocks> as Field>⟧.MODULUS
         ⟦<Fp<Goldilocks> as Field>⟧.MODULUS_BIT_SIZE width 8 22 0)) }
 {
     if width != 8 && width != 12 && width != 16 {
@@ -114,12 +115,12 @@ pub fn baby_bear_parameters(
     width: usize,
 ) -> Result<PoseidonConfig<Fp<BabyBear>>, Error>
     ensures made { IfOk result (λ c.
-        AreParameters (asked_of ⟦<Fp<BabyBear> as Field>⟧.MODULUS
+        AreParameters (instance_of ⟦<Fp<BabyBear> as Field>⟧.MODULUS
         ⟦<Fp<BabyBear> as Field>⟧.MODULUS_BIT_SIZE width 8 (baby_bear_rounds width) 0)
         (width - 8) 8 7 c) }
     ensures none { (width ≡ 12 → ⊥) × (width ≡ 16 → ⊥) → result ≡ Err (IncorrectInputLength width) }
     ensures refused { (width ≡ 12) ⊎ (width ≡ 16) → IfErr result (IsMatrixFault
-        (asked_of ⟦<Fp<BabyBear> as Field>⟧.MODULUS
+        (instance_of ⟦<Fp<BabyBear> as Field>⟧.MODULUS
         ⟦<Fp<BabyBear> as Field>⟧.MODULUS_BIT_SIZE width 8 (baby_bear_rounds width) 0)) }
 {
     if width != 12 && width != 16 {

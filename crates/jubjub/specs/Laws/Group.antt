@@ -66,7 +66,7 @@ of_modulus a = ap (λ n. times jubjub n a) modulus_is_order ∙ of_order a
 -- elements of the field are compared word by word
 abbrev pub words_eq : Fr → Fr → Bool
 words_eq a b =
-    (a.kept.w0 == b.kept.w0) && ((a.kept.w1 == b.kept.w1) && ((a.kept.w2 == b.kept.w2) && (a.kept.w3 == b.kept.w3)))
+    (a.form.w0 == b.form.w0) && ((a.form.w1 == b.form.w1) && ((a.form.w2 == b.form.w2) && (a.form.w3 == b.form.w3)))
 
 pub same_if_equal : (x y : Jubjub) → Decides (words_eq x.x y.x && words_eq x.y y.y) (x ≡ y)
 same_if_equal x y = (

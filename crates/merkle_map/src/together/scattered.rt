@@ -3,7 +3,7 @@
 ghost use Rattle.std.specs.Prelude.{◌≡◌, true, All, IfOk, Ok};
 ghost use Rattle.ark_base.specs.Outcome.{Outcome};
 ghost use Rattle.merkle_map.specs.Kept.{IsFor, IsKept};
-ghost use Rattle.merkle_map.specs.Map.{Digest};
+ghost use Rattle.merkle_map.specs.Map.{Digest, MapHashes};
 ghost use Rattle.merkle_map.specs.Parts.{shape};
 ghost use Rattle.merkle_map.specs.Together.{IsHashedPair, AreHashedEntries};
 ghost use Rattle.merkle_map.specs.Tree.{shape_digest};
@@ -25,17 +25,15 @@ fn is_entry(own: &([u8; 32], [u8; 32]), entry: &Entry) -> bool
 }
 
 // Returns an entry's digest, if it is the entry that was hashed at a place. The only error is `OutOfMemory`.
-fn entry_digest<D: DigestItem, H: MapViews<Input = [u8; 32], Output = D>>(
+fn entry_digest<D: DigestItem>(
     alloc: Global,
-    _hasher: &MapHasher<H>,
     entry: &Entry,
     entries: &[([u8; 32], [u8; 32])],
     digests: &[D],
     place: usize,
 ) -> Result<Option<D>, Error>
-    requires { AreHashedEntries D.numbers (H.hashes _hasher.now) entries.now digests.now }
-    ensures { IfOk result (IsFor D.numbers
-        ((H.hashes _hasher.now).leaf entry.now.key entry.now.value)) }
+    ensures { (hashes : MapHashes) → AreHashedEntries D.numbers hashes entries.now digests.now
+        → IfOk result (IsFor D.numbers (hashes.leaf entry.now.key entry.now.value)) }
 {
     if place >= entries.len() || place >= digests.len() {
         return Ok(None);
@@ -48,17 +46,15 @@ fn entry_digest<D: DigestItem, H: MapViews<Input = [u8; 32], Output = D>>(
 }
 
 // Returns the digest of two, if they were hashed at a place. The only error is `OutOfMemory`.
-fn pair_digest<D: DigestItem, H: MapViews<Input = [u8; 32], Output = D>>(
+fn pair_digest<D: DigestItem>(
     alloc: Global,
-    _hasher: &MapHasher<H>,
     left: &D,
     right: &D,
     forks: &[HashedPair<D>],
     place: usize,
 ) -> Result<Option<D>, Error>
-    requires { All (IsHashedPair D.numbers (H.hashes _hasher.now)) forks.now }
-    ensures { IfOk result (IsFor D.numbers ((H.hashes _hasher.now).pair (D.numbers left.now)
-        (D.numbers right.now))) }
+    ensures { (hashes : MapHashes) → All (IsHashedPair D.numbers hashes) forks.now
+        → IfOk result (IsFor D.numbers (hashes.pair (D.numbers left.now) (D.numbers right.now))) }
 {
     let Some(made) = forks.get(place) else {
         return Ok(None);
@@ -71,23 +67,21 @@ fn pair_digest<D: DigestItem, H: MapViews<Input = [u8; 32], Output = D>>(
 }
 
 // Returns the digest of the next fork of these two, if they were hashed at its place. The only error is `OutOfMemory`.
-fn next_digest<D: DigestItem, H: MapViews<Input = [u8; 32], Output = D>>(
+fn next_digest<D: DigestItem>(
     alloc: Global,
-    hasher: &MapHasher<H>,
     left: &D,
     right: &D,
     made: &Made<D>,
     passed: &mut Passed,
 ) -> Result<Option<D>, Error>
-    requires { All (IsHashedPair D.numbers (H.hashes hasher.now)) made.now.forks.items }
-    ensures { IfOk result (IsFor D.numbers ((H.hashes hasher.now).pair (D.numbers left.now)
-        (D.numbers right.now))) }
+    ensures { (hashes : MapHashes) → All (IsHashedPair D.numbers hashes) made.now.forks.items
+        → IfOk result (IsFor D.numbers (hashes.pair (D.numbers left.now) (D.numbers right.now))) }
 {
     let Some(place) = made.places.get(passed.forks) else {
         return Ok(None);
     };
     passed.forks = passed.forks.wrapping_add(1);
-    pair_digest(alloc, hasher, left, right, &made.forks, *place)
+    pair_digest(alloc, left, right, &made.forks, *place)
 }
 
 // Keeps a digest, if it is known. The only error is `OutOfMemory`.
@@ -146,7 +140,7 @@ pub fn scatter<D: DigestItem, H: MapViews<Input = [u8; 32], Output = D>>(
             let entry = &mut **entry;
             let place = passed.entries;
             passed.entries = place.wrapping_add(1);
-            entry_digest(alloc, hasher, entry, &work.entries, &made.entries, place)
+            entry_digest(alloc, entry, &work.entries, &made.entries, place)
         }
         Part::Fork { sides } => {
             let Sides {
@@ -165,7 +159,7 @@ pub fn scatter<D: DigestItem, H: MapViews<Input = [u8; 32], Output = D>>(
             let (Some(l), Some(r)) = (on_left, on_right) else {
                 return Ok(None);
             };
-            let own = next_digest(alloc, hasher, &l, &r, made, passed)?;
+            let own = next_digest(alloc, &l, &r, made, passed)?;
             keep_known(alloc, digest, own, passed)
         }
         Part::Hidden { digest } => {

@@ -14,7 +14,7 @@ use Rattle.ark_groups.specs.declared.ff.words.Words.{Words}
 use Rattle.ark_groups.specs.Words.{number}
 use Rattle.ark_wide_fields.specs.Laws.Moduli.{at_least_two, field_modulus}
 use Rattle.ark_wide_fields.specs.Moduli.{IsWide}
-use Rattle.paxidore_calls.specs.Forms.{HasForm, divided, kept_form, own_form}
+use Rattle.paxidore_calls.specs.Forms.{HasForm, divided, scaled_form, own_form}
 
 pub own_form_laws : (p bits : ℕ) → IsFieldModulus p bits → HasForm p (own_form p bits)
 own_form_laws p bits modulus = below_modulus_laws p bits modulus.digits
@@ -40,18 +40,18 @@ module _ (p : ℕ) (two : 2 ≤ p) (odd : p % 2 ≡ 1) where
       alone : (n : ℕ) → n * 1 ≡ n
       alone n = omega arith
 
-  pub divided_kept : (n : ℕ) → n < p → divided p (n * 2 ^ 256 % p) ≡ n
+  pub divided_scaled : (n : ℕ) → n < p → divided p (n * 2 ^ 256 % p) ≡ n
   unfolding divided
-  divided_kept n below =
+  divided_scaled n below =
       let half = ((p + 1) / 2) ^ 256 in
       mul-mod_first (n * 2 ^ 256) half p ∙ ap (λ m. m % p) (ring n (2 ^ 256) half) ∙ both_ways n ∙ mod-eq_of_lt below
     where
       ring : (n a b : ℕ) → n * a * b ≡ n * (a * b)
       ring n a b = grind arith
 
-  pub kept_divided : (n : ℕ) → n < p → divided p n * 2 ^ 256 % p ≡ n
+  pub scaled_divided : (n : ℕ) → n < p → divided p n * 2 ^ 256 % p ≡ n
   unfolding divided
-  kept_divided n below =
+  scaled_divided n below =
       let half = ((p + 1) / 2) ^ 256 in
       mul-mod_first (n * half) (2 ^ 256) p ∙ ap (λ m. m % p) (ring n (2 ^ 256) half) ∙ both_ways n
       ∙ mod-eq_of_lt below
@@ -63,32 +63,32 @@ module _ (p : ℕ) (two : 2 ≤ p) (odd : p % 2 ≡ 1) where
   unfolding divided
   divided_below n = mod_below _ p (omega (arith, two))
 
--- ---- the form of what is kept
+-- ---- elements by their Montgomery forms
 
 module _ (p bits : ℕ) (two : 2 ≤ p) (odd : p % 2 ≡ 1) (own : HasForm p (own_form p bits)) where
   again : (n : ℕ) (rest : List ℕ) → n < p
-      → (kept_form p bits).reads ((kept_form p bits).spells n ++ rest) ≡ Ok (n, rest)
+      → (scaled_form p bits).reads ((scaled_form p bits).spells n ++ rest) ≡ Ok (n, rest)
   unfolding made_at
   again n rest below =
-      rw (own.again (n * 2 ^ 256 % p) rest (mod_below _ p (omega (arith, two))), divided_kept p two odd n below) refl
+      rw (own.again (n * 2 ^ 256 % p) rest (mod_below _ p (omega (arith, two))), divided_scaled p two odd n below) refl
 
-  spelled : (bytes : List ℕ) (n : ℕ) (rest : List ℕ) → IsBytes bytes → (kept_form p bits).reads bytes ≡ Ok (n, rest)
-      → (n < p) × (bytes ≡ (kept_form p bits).spells n ++ rest)
+  spelled : (bytes : List ℕ) (n : ℕ) (rest : List ℕ) → IsBytes bytes → (scaled_form p bits).reads bytes ≡ Ok (n, rest)
+      → (n < p) × (bytes ≡ (scaled_form p bits).spells n ++ rest)
   unfolding made_at
   spelled bytes n rest fitting e =
       let step = bind_ok (below_at p (bytes_for bits) bytes) (λ v. Ok (divided p v.0, v.1)) (n, rest) e in
       let m = step.0.0 in
       let one = own.spelled bytes m step.0.1 fitting step.1 in
-      at_read (λ n rest. (n < p) × (bytes ≡ (kept_form p bits).spells n ++ rest)) (divided p m) n step.0.1 rest step.2
-      (divided_below p two odd m, rw (kept_divided p two odd m one.0) one.1)
+      at_read (λ n rest. (n < p) × (bytes ≡ (scaled_form p bits).spells n ++ rest)) (divided p m) n step.0.1 rest step.2
+      (divided_below p two odd m, rw (scaled_divided p two odd m one.0) one.1)
 
-  cut : (n k : ℕ) → n < p → k < length ((kept_form p bits).spells n)
-      → (kept_form p bits).reads (take k ((kept_form p bits).spells n)) ≡ Err Truncated
+  cut : (n k : ℕ) → n < p → k < length ((scaled_form p bits).spells n)
+      → (scaled_form p bits).reads (take k ((scaled_form p bits).spells n)) ≡ Err Truncated
   unfolding made_at
   cut n k below short = rw (own.cut (n * 2 ^ 256 % p) k (mod_below _ p (omega (arith, two))) short) refl
 
-  laws_of_kept : HasForm p (kept_form p bits)
-  laws_of_kept = record { again = again; spelled = spelled; cut = cut }
+  laws_of_scaled : HasForm p (scaled_form p bits)
+  laws_of_scaled = record { again = again; spelled = spelled; cut = cut }
 
 -- a modulus of four words is odd
 pub odd_modulus : {p one square : Words} {bits inverse : ℕ} → IsWide p bits inverse one square → number p % 2 ≡ 1
@@ -104,8 +104,8 @@ odd_modulus {p} {one} {square} {bits} {inverse} laws = odd (number p) inverse la
           | inr none ↦ absurd (omega (arith, turned, factor p inverse (p / 2) (omega (arith, none))))
         ]
 
-pub kept_form_laws : {p one square : Words} {bits inverse : ℕ} → IsWide p bits inverse one square
-    → HasForm (number p) (kept_form (number p) bits)
-kept_form_laws {p} {one} {square} {bits} {inverse} laws =
-    laws_of_kept (number p) bits (at_least_two laws) (odd_modulus laws)
+pub scaled_form_laws : {p one square : Words} {bits inverse : ℕ} → IsWide p bits inverse one square
+    → HasForm (number p) (scaled_form (number p) bits)
+scaled_form_laws {p} {one} {square} {bits} {inverse} laws =
+    laws_of_scaled (number p) bits (at_least_two laws) (odd_modulus laws)
     (own_form_laws (number p) bits (field_modulus laws))

@@ -1,4 +1,4 @@
-//! How the elements of parameters stand in their bytes: as their canonical bytes, or as the numbers that they are kept as.
+//! How the elements of parameters stand in their bytes: as their canonical bytes, or by their Montgomery forms.
 
 ghost use Rattle.std.specs.Prelude.{◌≡◌, ℕ, ◌≤◌, ◌++◌, ◌*◌, ◌%◌, ◌^◌, ◌<◌, map, IfErr, OnOk};
 ghost use Rattle.std.specs.List.{flat_map};
@@ -8,7 +8,7 @@ ghost use Rattle.ark_base.specs.Reading.{Reads};
 ghost use Rattle.ark_base.specs.Spelling.{items_at};
 ghost use Rattle.ark_groups.specs.Words.{number};
 ghost use Rattle.ark_wide_fields.specs.Values.{value};
-ghost use Rattle.paxidore_calls.specs.Forms.{Form, HasForm, divided, kept_form, own_form};
+ghost use Rattle.paxidore_calls.specs.Forms.{Form, HasForm, divided, scaled_form, own_form};
 
 use crate::transcript::items::{ReadsItem, read_each_item};
 use ark_base::error::Error;
@@ -66,11 +66,11 @@ impl<F: Field> ElementForm<F> for Own {
     ghost same_modulus = { refl };
 }
 
-/// The numbers that a field of four words keeps: each element times 2^256, modulo the modulus. Reading takes no product.
-pub struct Kept;
+/// The Montgomery forms of a field of four words: each element times 2^256, modulo the modulus. Reading takes no product.
+pub struct Scaled;
 
 // Returns how many bytes an element takes, which are some.
-fn kept_len<M: WideModulus>() -> usize
+fn scaled_len<M: WideModulus>() -> usize
     ensures exact { result ≡ bytes_for M.BITS }
     ensures some { 0 < result }
     ensures short { result ≤ 32 }
@@ -78,28 +78,28 @@ fn kept_len<M: WideModulus>() -> usize
     byte_len::<M>()
 }
 
-// Returns the element that is kept as a number.
-fn kept_element<M: WideModulus>(words: Words) -> Fp256<M>
+// Returns the element of a Montgomery form.
+fn scaled_element<M: WideModulus>(words: Words) -> Fp256<M>
     requires { number words < number M.P }
     ensures { value result ≡ divided (number M.P) (number words) }
 {
-    Fp256::of_kept_words(words)
+    Fp256::of_form_words(words)
 }
 
 // Appends an element. The only error is `OutOfMemory`.
-fn write_kept<M: WideModulus>(element: Fp256<M>, dest: &mut Vec<u8>) -> Result<(), Error>
-    ensures appended { let kept = value element * 2 ^ 256 % number M.P in
-        OnOk result (dest.new.items ≡ dest.old.items ++ bytes_of_number (bytes_for M.BITS) kept) }
+fn write_scaled<M: WideModulus>(element: Fp256<M>, dest: &mut Vec<u8>) -> Result<(), Error>
+    ensures appended { let form = value element * 2 ^ 256 % number M.P in
+        OnOk result (dest.new.items ≡ dest.old.items ++ bytes_of_number (bytes_for M.BITS) form) }
     ensures refused { IfErr result IsMemory }
 {
-    let len = kept_len::<M>();
+    let len = scaled_len::<M>();
     let mut bytes = [0; 32];
-    write_bytes(element.kept_words(), &mut bytes[..len]);
+    write_bytes(element.form_words(), &mut bytes[..len]);
     dest.extend_from_slice(&bytes[..len])?;
     Ok(())
 }
 
-impl<M: WideModulus> ReadsItem<Fp256<M>> for Kept {
+impl<M: WideModulus> ReadsItem<Fp256<M>> for Scaled {
     ghost use Rattle.ark_groups.specs.Words.{number};
     ghost use Rattle.ark_wide_fields.specs.Values.{value};
 
@@ -107,37 +107,37 @@ impl<M: WideModulus> ReadsItem<Fp256<M>> for Kept {
 
     ghost view = { λ element. value element };
 
-    ghost reads = { (kept_form (number M.P) M.BITS).reads };
+    ghost reads = { (scaled_form (number M.P) M.BITS).reads };
 
     #[tactic(auto, unfolding(ark_base::specs::Spelling::made_at))]
     fn read_item(_alloc: Global, bytes: &[u8]) -> Result<(Fp256<M>, usize), Error> {
         let (words, used) = read_below(M::P, byte_len::<M>(), bytes)?;
-        Ok((kept_element(words), used))
+        Ok((scaled_element(words), used))
     }
 }
 
-impl<M: WideModulus> ElementForm<Fp256<M>> for Kept {
+impl<M: WideModulus> ElementForm<Fp256<M>> for Scaled {
     ghost use Rattle.std.specs.Prelude.{refl};
     ghost use Rattle.ark_groups.specs.Words.{number};
-    ghost use Rattle.paxidore_calls.specs.Laws.Forms.{kept_form_laws};
+    ghost use Rattle.paxidore_calls.specs.Laws.Forms.{scaled_form_laws};
 
     ghost modulus = { number M.P };
 
-    ghost form = { kept_form (number M.P) M.BITS };
+    ghost form = { scaled_form (number M.P) M.BITS };
 
-    ghost laws = { kept_form_laws M.laws };
+    ghost laws = { scaled_form_laws M.laws };
 
     fn read_elements(
         alloc: Global,
         count: u64,
         bytes: &[u8],
     ) -> Result<(Vec<Fp256<M>>, usize), Error> {
-        read_each_item::<Fp256<M>, Kept>(alloc, count, kept_len::<M>(), bytes)
+        read_each_item::<Fp256<M>, Scaled>(alloc, count, scaled_len::<M>(), bytes)
     }
 
     fn write_elements(elements: &[Fp256<M>], dest: &mut Vec<u8>) -> Result<(), Error> {
         for element in elements {
-            write_kept(*element, dest)?;
+            write_scaled(*element, dest)?;
         }
         Ok(())
     }

@@ -20,7 +20,7 @@ pub prepared-requires : goal.prepared-requires
 prepared-requires c =
     let i = c.loop-i.i in (
       times curve (c.loop-i.rest.w0 % 16) (row_unit i),
-      c.kept_multiple.ensures (row_unit i) (unit_on i) c.base_row.ensures,
+      c.forms_multiple.ensures (row_unit i) (unit_on i) c.base_row.ensures,
     )
 
 pub loop-i-preserved : goal.loop-i-preserved
@@ -43,7 +43,7 @@ loop-i-preserved c =
           (subst (λ k. Stands r (sum p d s (times curve k (row_unit i)))) digit_is
           (c.plus_prepared-so_far.ensures d k s t (multiple_on_curve p d k count base_point base_on_curve)
           (multiple_on_curve p d k digit (row_unit i) (unit_on i)) (c.loop-i.invariant.1 m of_sum)
-          (c.prepared.ensures t (c.kept_multiple.ensures (row_unit i) (unit_on i) c.base_row.ensures)))),
+          (c.prepared.ensures t (c.forms_multiple.ensures (row_unit i) (unit_on i) c.base_row.ensures)))),
     )
 
 pub returns : goal.returns

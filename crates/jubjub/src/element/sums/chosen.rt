@@ -29,9 +29,9 @@ pub struct Chosen {
 fn words_in(element: &Jubjub) -> Entry
     ensures { result ≡ element_words element.now }
 {
-    let x = element.x.kept_words();
-    let y = element.y.kept_words();
-    let crossed = element.crossed.kept_words();
+    let x = element.x.form_words();
+    let y = element.y.form_words();
+    let crossed = element.crossed.form_words();
     [
         [x.w0, x.w1],
         [x.w2, x.w3],
@@ -42,14 +42,14 @@ fn words_in(element: &Jubjub) -> Entry
     ]
 }
 
-// The element of the field for which these four words are kept.
+// The element of the field whose Montgomery form these four words are.
 #[inline(always)]
-fn kept_as(low: &[u64; 2], high: &[u64; 2]) -> Bls12_381Fr
+fn from_form(low: &[u64; 2], high: &[u64; 2]) -> Bls12_381Fr
     requires { (n : ℕ) × (n < p) × (low.now ∷ high.now ∷ [] ≡ couples (montgomery_form n) []) }
     ensures { (n : ℕ) → n < p → low.now ∷ high.now ∷ [] ≡ couples (montgomery_form n) []
         → value result ≡ n }
 {
-    Bls12_381Fr::of_kept_words(Words {
+    Bls12_381Fr::of_form_words(Words {
         w0: low[0],
         w1: low[1],
         w2: high[0],
@@ -57,7 +57,7 @@ fn kept_as(low: &[u64; 2], high: &[u64; 2]) -> Bls12_381Fr
     })
 }
 
-// The elements of the field for which the words of an entry are kept.
+// The elements of the field whose Montgomery forms an entry has.
 #[inline(always)]
 fn chosen_in(entry: &Entry) -> Chosen
     requires { (x y c : ℕ) × AreEntryWords entry.now x y c }
@@ -66,9 +66,9 @@ fn chosen_in(entry: &Entry) -> Chosen
     ensures crossed { (x y c : ℕ) → AreEntryWords entry.now x y c → value result.crossed ≡ c }
 {
     Chosen {
-        x: kept_as(&entry[0], &entry[1]),
-        y: kept_as(&entry[2], &entry[3]),
-        crossed: kept_as(&entry[4], &entry[5]),
+        x: from_form(&entry[0], &entry[1]),
+        y: from_form(&entry[2], &entry[3]),
+        crossed: from_form(&entry[4], &entry[5]),
     }
 }
 

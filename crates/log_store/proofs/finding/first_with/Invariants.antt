@@ -1,5 +1,4 @@
 use Rattle.std.proofs.Common.{◌≢◌, ◌≤◌, ◌<◌, ◌+◌, ◌-◌, ℕ, length}
-use Rattle.merkle_log.specs.Stored.{stored_count}
 use Rattle.log_file.specs.LogFile.{file_end}
 use Rattle.log_store.specs.Sound.{placed, IsAhead}
 use Rattle.log_store.proofs.finding.first_with.Given as goal
@@ -9,10 +8,9 @@ invariant-entries g l =
     let seen = g.D.Disk.seen l.disk in
     record {
       below : l.index ≤ l.size;
-      fits : l.window.count ≤ 128;
-      near : l.window.start + l.window.count ≤ stored_count l.size;
+      fits : l.ahead.count ≤ 512;
       ahead : g.D.Disk.Obeys l.disk → file_end l.size ≤ length seen
-          → IsAhead l.window.start l.window.count l.window.bytes seen;
+          → IsAhead l.ahead.start l.ahead.count l.ahead.bytes seen;
       others : g.D.Disk.Obeys l.disk → file_end l.size ≤ length seen
           → (i : ℕ) → i < l.index → placed seen 0 i ≢ l.digest;
     }

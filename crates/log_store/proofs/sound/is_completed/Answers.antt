@@ -65,7 +65,7 @@ digest_in-requires-in-odd-2-clause-near g c =
 
 -- what is read above, and what is compared with it
 compared : (g : _) (c : After-ne g) → g.D.Disk.Obeys c.args.disk.now
-    → IsAhead c.args.window.now.start c.args.window.now.count c.args.window.now.bytes (g.D.Disk.seen c.args.disk.now)
+    → IsAhead c.args.ahead.now.start c.args.ahead.now.count c.args.ahead.now.bytes (g.D.Disk.seen c.args.disk.now)
     → file_end (c.args.index + 1) ≤ length (g.D.Disk.seen c.args.disk.now)
     → (c.in_ok-above.above ≡ placed (g.D.Disk.seen c.args.disk.now) (c.odd.level + 1) (c.odd.left / 2))
     × Compares (g.D.Disk.seen c.args.disk.now) c.args.index c.odd.level c.node.result c.in_ok-above.above

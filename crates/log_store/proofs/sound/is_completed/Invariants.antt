@@ -10,9 +10,9 @@ invariant-odd g l =
     let seen = g.D.Disk.seen l.disk in
     record {
       at : Climbs l.index l.level l.left;
-      own : g.D.Disk.Obeys l.disk → IsAhead l.window.start l.window.count l.window.bytes seen
+      own : g.D.Disk.Obeys l.disk → IsAhead l.ahead.start l.ahead.count l.ahead.bytes seen
           → file_end (l.index + 1) ≤ length seen → l.own ≡ placed seen l.level l.left;
-      hashed : g.D.Disk.Obeys l.disk → IsAhead l.window.start l.window.count l.window.bytes seen
+      hashed : g.D.Disk.Obeys l.disk → IsAhead l.ahead.start l.ahead.count l.ahead.bytes seen
           → file_end (l.index + 1) ≤ length seen → (k : ℕ) → k < l.level → IsNode seen k (index_up (suc k) l.index);
     }
 

@@ -7,8 +7,7 @@ pub entries-init : goal.entries-init
 entries-init g c = record {
   limit = omega arith;
   count = omega (arith, no-count);
-  fits = omega (arith, c.no_window-window.ensures.none);
-  near = omega (arith, c.no_window-window.ensures.start, c.no_window-window.ensures.none);
-  ahead = λ obeys inside. rw (c.no_window-window.ensures.start, c.no_window-window.ensures.none) refl;
+  fits = omega (arith, c.none_ahead-ahead.ensures);
+  ahead = λ obeys inside. rw (c.none_ahead-ahead.ensures) refl;
   sound = λ obeys inside. none-hashed (g.D.Disk.seen c.args.disk.now);
 }

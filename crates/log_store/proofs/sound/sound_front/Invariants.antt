@@ -9,10 +9,9 @@ invariant-entries g l =
     record {
       limit : l.size ≤ l.limit;
       count : stored_count l.size ≤ l.count;
-      fits : l.window.count ≤ 128;
-      near : l.window.start + l.window.count ≤ l.count;
+      fits : l.ahead.count ≤ 512;
       ahead : g.D.Disk.Obeys l.disk → 96 + 32 * l.count ≤ length seen
-          → IsAhead l.window.start l.window.count l.window.bytes seen;
+          → IsAhead l.ahead.start l.ahead.count l.ahead.bytes seen;
       sound : g.D.Disk.Obeys l.disk → 96 + 32 * l.count ≤ length seen → AreNodes seen l.size;
     }
 

@@ -28,6 +28,12 @@ look_at-requires-clause-before g c =
 pub look_at-requires-clause-near : goal.look_at-requires-clause-near
 look_at-requires-clause-near g c = omega (arith, c.stored_count.ensures, c.requires.near)
 
+pub digest_in-requires-clause-near : goal.digest_in-requires-clause-near
+digest_in-requires-clause-near g c =
+    let within = position-within c.args.level c.args.place c.args.size
+    (place-within c.args.level c.args.place c.args.size c.requires.inside) in
+    omega (arith, c.position_of-position.ensures, c.requires.near)
+
 pub returns-clause-ahead : goal.returns-clause-ahead
 returns-clause-ahead g c = λ obeys inside ahead.
     c.in_ok-look_at.ensures.ahead obeys (omega (arith, c.stored_count.ensures, inside)) ahead
@@ -42,5 +48,6 @@ returns-clause-digest g c = λ obeys inside ahead.
     let at = stored-at size c.position_of-position.result seen (omega (arith, c.position_of-position.ensures)) in
     let same = ap (λ n. get_or stored n []) c.position_of-position.ensures in
     let row = row_of-at (front size stored) c.args.level c.args.place c.requires.inside in
-    c.digest_ahead.ensures seen
-    (c.in_ok-look_at.ensures.ahead obeys (omega (arith, c.stored_count.ensures, inside)) ahead) ∙ at ∙ same ∙ sym row
+    c.in_ok-digest.ensures obeys
+    (c.in_ok-look_at.ensures.ahead obeys (omega (arith, c.stored_count.ensures, inside)) ahead)
+    (omega (arith, c.position_of-position.ensures, inside)) ∙ at ∙ same ∙ sym row

@@ -22,7 +22,7 @@ places-init g c = record {
 
 pub places-preserved : goal.places-preserved
 places-preserved g c = record {
-  fits = c.in_ok-digest.ensures.window;
+  fits = c.in_ok-digest.ensures.count;
   ahead = λ obeys inside. c.in_ok-digest.ensures.ahead obeys inside (c.places.invariant.ahead obeys inside);
   read = λ obeys inside.
       let seen = g.D.Disk.seen c.args.disk.now in

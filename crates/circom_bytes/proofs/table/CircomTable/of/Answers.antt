@@ -11,7 +11,7 @@ use Rattle.circom_bytes.proofs.table.CircomTable.of.Goals as goal
 pub of_table-requires-clause-long : goal.of_table-requires-clause-long
 of_table-requires-clause-long c =
     let inputs = c.in-Ok.inputs in
-    let found = c.in-Ok-read_kept.ensures.found in
+    let found = c.in-Ok-read_forms.ensures.found in
     let long = numbers-long inputs c.count_for.result c.args.bytes.now c.split_at.result.1.now c.split_at-2.result.0.now
     found.0 c.in-Ok.ensures.frame c.count_for.ensures.count c.split_at.ensures.back c.split_at-2.ensures.front
     found.3 in
@@ -26,14 +26,14 @@ returns-in-Err-clause-spelled c = λ inputs parameters spells.
     absurd (no-fault inputs c.args.bytes.now (framed inputs parameters c.args.bytes.now spells) c.in-Err.error
     c.in-Err.ensures.refused)
 
-pub returns-in-Err-read_kept-clause-spelled : goal.returns-in-Err-read_kept-clause-spelled
-returns-in-Err-read_kept-clause-spelled c = λ inputs parameters spells.
+pub returns-in-Err-read_forms-clause-spelled : goal.returns-in-Err-read_forms-clause-spelled
+returns-in-Err-read_forms-clause-spelled c = λ inputs parameters spells.
     let first = sym c.in-Ok.ensures.frame.first ∙ first_is inputs parameters c.args.bytes.now spells in
     let front = c.split_at-2.ensures.front
     ∙ ap (λ n. take (32 * n) c.split_at.result.1.now) (c.count_for.ensures.count ∙ ap table_count first) in
     let bytes = rest_is inputs parameters c.args.bytes.now spells _ _ c.split_at.ensures.back front in
-    only_memory spells.numbers _ c.in-Err-read_kept.error refl
-    (c.in-Err-read_kept.ensures.read spells.numbers spells.below bytes)
+    only_memory spells.numbers _ c.in-Err-read_forms.error refl
+    (c.in-Err-read_forms.ensures.read spells.numbers spells.below bytes)
 
 pub returns-clause-spelled : goal.returns-clause-spelled
 returns-clause-spelled c = λ inputs parameters spells.
@@ -41,7 +41,7 @@ returns-clause-spelled c = λ inputs parameters spells.
     let front = c.split_at-2.ensures.front
     ∙ ap (λ n. take (32 * n) c.split_at.result.1.now) (c.count_for.ensures.count ∙ ap table_count first) in
     let bytes = rest_is inputs parameters c.args.bytes.now spells _ _ c.split_at.ensures.back front in
-    let same = sym (ok_same _ _ _ refl (c.in-Ok-read_kept.ensures.read spells.numbers spells.below bytes)) in
+    let same = sym (ok_same _ _ _ refl (c.in-Ok-read_forms.ensures.read spells.numbers spells.below bytes)) in
     let shape = c.shape_for.ensures ∙ ap shape_for first in
     let parts = rw c.deref.ensures.value at c.in_ok-short.ensures.value in (
       first,
@@ -55,7 +55,7 @@ pub returns-clause-found : goal.returns-clause-found
 returns-clause-found c =
     let inputs = c.in-Ok.inputs in
     let frame = c.in-Ok.ensures.frame in
-    let found = c.in-Ok-read_kept.ensures.found in
+    let found = c.in-Ok-read_forms.ensures.found in
     let parts = rw c.deref.ensures.value at c.in_ok-short.ensures.value in
     record {
       some = frame.some;

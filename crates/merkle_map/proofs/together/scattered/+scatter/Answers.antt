@@ -19,4 +19,4 @@ returns-in_ok-own-in-Fork-clause-kept g t c =
     let r-is = subst (IsFor numbers _) c.in-Some-Some.is-1 on-right.digest in
     let known = fork-known h (shape numbers sides.left) (shape numbers sides.right) _ _ l-is r-is in
     let put = put-known numbers _ _ _ _ _ _ (λ i. shape_digest h (Fork (on-left.same i) (on-right.same i))) known was
-    c.in_ok-own-in-Fork.ensures c.keep_known.ensures.kept in (put, on-left.kept, on-right.kept)
+    (c.in_ok-own-in-Fork.ensures h c.requires.forks) c.keep_known.ensures.kept in (put, on-left.kept, on-right.kept)

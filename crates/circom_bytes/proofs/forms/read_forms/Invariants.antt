@@ -1,17 +1,17 @@
 use Rattle.std.proofs.Common.{◌≡◌, ◌<◌, ◌+◌, ◌*◌, ◌≤◌, ◌++◌, ℕ, List, length, map, take, drop, All}
 use Rattle.ark_groups.specs.Words.{number}
 use Rattle.ark_wide_fields.specs.Moduli.{value_of}
-use Rattle.circom_bytes.specs.Elements.{kept_bytes}
-use Rattle.circom_bytes.proofs.kept.read_kept.Given as goal
+use Rattle.circom_bytes.specs.Elements.{form_bytes}
+use Rattle.circom_bytes.proofs.forms.read_forms.Given as goal
 
 abbrev pub invariant-loop : goal.invariant-loop
 invariant-loop g l =
     let m = g.M.WideModulus in
     record {
-      read : (xs : List ℕ) → All (λ x. x < number m.P) xs → l.bytes ≡ kept_bytes (number m.P) xs
-          → (l.rest ≡ kept_bytes (number m.P) (drop l.counter xs))
-          × (map (λ x. value_of m.P m.INVERSE x.kept) l.elements.items ≡ take l.counter xs);
-      front : l.bytes ≡ kept_bytes (number m.P) (map (λ x. value_of m.P m.INVERSE x.kept) l.elements.items) ++ l.rest;
+      read : (xs : List ℕ) → All (λ x. x < number m.P) xs → l.bytes ≡ form_bytes (number m.P) xs
+          → (l.rest ≡ form_bytes (number m.P) (drop l.counter xs))
+          × (map (λ x. value_of m.P m.INVERSE x.form) l.elements.items ≡ take l.counter xs);
+      front : l.bytes ≡ form_bytes (number m.P) (map (λ x. value_of m.P m.INVERSE x.form) l.elements.items) ++ l.rest;
       left : length l.rest + 32 * l.counter ≡ length l.bytes;
       room : (k : ℕ) → l.counter + k ≡ l.count → 32 * k ≤ length l.rest;
       whole : 32 * l.count ≡ length l.bytes;

@@ -1,4 +1,4 @@
-//! Elements as they are kept, as bytes: 32 for each, the least first.
+//! Montgomery forms of elements, as bytes: 32 for each, the least first.
 
 ghost use Rattle.std.specs.Prelude.{◌≡◌, ◌⊎◌, ◌*◌, ◌%◌, ◌^◌, ◌<◌, ◌++◌, ℕ, List, map, length, All, MatchResult, IfErr, IfOk, OnOk, Ok, Err};
 ghost use Rattle.ark_base.specs.declared.error.Error.TheVariants.{OutOfMemory, SerializationError as OfBytes};
@@ -6,34 +6,34 @@ ghost use Rattle.ark_base.specs.declared.error.SerializationError.TheVariants.{I
 ghost use Rattle.ark_base.specs.Digits.{bytes_of_number};
 ghost use Rattle.ark_base.specs.Outcome.{AnswersBy};
 ghost use Rattle.ark_groups.specs.Words.{number};
-ghost use Rattle.circom_bytes.specs.Elements.{AreNoneKept, kept_bytes};
+ghost use Rattle.circom_bytes.specs.Elements.{AreNoForms, form_bytes};
 
 use ark_base::error::{Error, SerializationError};
 use ark_groups::ff::{Valued, write_bytes};
 use ark_wide_fields::{Fp256, WideModulus, is_below, words_of};
 use std::alloc::{AllocError, Global};
 
-/// Puts elements behind bytes.
-pub fn put_kept<M: WideModulus>(
+/// Puts the forms of elements behind bytes.
+pub fn put_forms<M: WideModulus>(
     bytes: &mut Vec<u8>,
     elements: &[Fp256<M>],
 ) -> Result<(), AllocError>
     ensures { OnOk result ((xs : List ℕ) × All (λ x. x < number M.P) xs
         × (xs ≡ map ⟦<Fp256<M> as Valued>⟧.value elements.now)
-        × (bytes.new.items ≡ bytes.old.items ++ kept_bytes (number M.P) xs)) }
+        × (bytes.new.items ≡ bytes.old.items ++ form_bytes (number M.P) xs)) }
 {
     for element in elements {
         let mut own = [0; 32];
-        write_bytes(element.kept_words(), &mut own);
+        write_bytes(element.form_words(), &mut own);
         bytes.extend_from_slice(&own)?;
     }
     Ok(())
 }
 
-// The element that is kept as 32 bytes.
-fn kept_of<M: WideModulus>(bytes: &[u8]) -> Result<Fp256<M>, Error>
+// The element whose form 32 bytes are.
+fn form_of<M: WideModulus>(bytes: &[u8]) -> Result<Fp256<M>, Error>
     requires { length bytes.now ≡ 32 }
-    ensures kept { (n : ℕ) → n < number M.P
+    ensures form { (n : ℕ) → n < number M.P
         → bytes.now ≡ bytes_of_number 32 (n * 2 ^ 256 % number M.P)
         → MatchResult result (λ x. ⟦<Fp256<M> as Valued>⟧.value x ≡ n) (λ _. ⊥) }
     ensures found { IfOk result (λ x. bytes.now
@@ -42,7 +42,7 @@ fn kept_of<M: WideModulus>(bytes: &[u8]) -> Result<Fp256<M>, Error>
 {
     let words = words_of(bytes);
     if is_below(words, M::P) {
-        Ok(Fp256::of_kept_words(words))
+        Ok(Fp256::of_form_words(words))
     } else {
         Err(Error::SerializationError(SerializationError::InvalidData))
     }
@@ -52,16 +52,16 @@ fn kept_of<M: WideModulus>(bytes: &[u8]) -> Result<Fp256<M>, Error>
 ///
 /// Errors: `Truncated` for bytes that are not whole elements, `InvalidData` for one that is not below the modulus;
 /// `OutOfMemory`.
-pub fn read_kept<M: WideModulus>(alloc: Global, bytes: &[u8]) -> Result<Vec<Fp256<M>>, Error>
+pub fn read_forms<M: WideModulus>(alloc: Global, bytes: &[u8]) -> Result<Vec<Fp256<M>>, Error>
     ensures read { (xs : List ℕ) → All (λ x. x < number M.P) xs
-        → bytes.now ≡ kept_bytes (number M.P) xs
+        → bytes.now ≡ form_bytes (number M.P) xs
         → AnswersBy (λ elements. map ⟦<Fp256<M> as Valued>⟧.value elements.items) (Ok xs) result }
     ensures found { IfOk result (λ elements. (xs : List ℕ) × All (λ x. x < number M.P) xs
         × (xs ≡ map ⟦<Fp256<M> as Valued>⟧.value elements.items)
-        × (bytes.now ≡ kept_bytes (number M.P) xs)) }
+        × (bytes.now ≡ form_bytes (number M.P) xs)) }
     ensures truncated { (length bytes.now % 32 ≡ 0 → ⊥) → result ≡ Err (OfBytes Truncated) }
     ensures refused { length bytes.now % 32 ≡ 0 → IfErr result (λ error. (error ≡ OutOfMemory)
-        ⊎ (AreNoneKept (number M.P) bytes.now × (error ≡ OfBytes InvalidData))) }
+        ⊎ (AreNoForms (number M.P) bytes.now × (error ≡ OfBytes InvalidData))) }
 {
     if bytes.len() % 32 != 0 {
         return Err(Error::SerializationError(SerializationError::Truncated));
@@ -71,7 +71,7 @@ pub fn read_kept<M: WideModulus>(alloc: Global, bytes: &[u8]) -> Result<Vec<Fp25
     let mut rest = bytes;
     for _ in 0..count {
         let (part, behind) = rest.split_at(32);
-        match kept_of(part) {
+        match form_of(part) {
             Ok(element) => elements.push(element)?,
             Err(error) => return Err(error),
         }
