@@ -10,6 +10,7 @@ import time
 
 import paxlog_entries
 import paxlog_folders
+import paxlog_needs
 import paxlog_policies
 import paxlog_requests
 from paxlog_model import DRAWS, KILLS, LARGEST, PROGRAM, ask, check, read, root, sha, write
@@ -87,8 +88,8 @@ def keys(room, notes):
 
 
 def is_served(room, verifier, rows):
-    """Grows a log, and compares its folder at each size with the model."""
-    log, site, key, seen = room + "/log", room + "/site", room + "/key", {}
+    """Grows a log, and compares its folder at each size with the model. Returns its checkpoint at each."""
+    log, site, key, seen, served = room + "/log", room + "/site", room + "/key", {}, {}
     size = 0
     for new in SIZES:
         lines = [b"line %d" % number for number in range(size, new)]
@@ -99,7 +100,7 @@ def is_served(room, verifier, rows):
         said = "%d %s\n" % (new, rows.root(new).hex())
         check("tiles of %d" % new, ask("tiles", log, site, "--key", key) == (0, said, ""))
         found = files_below(site)
-        note = found.pop("checkpoint")
+        note = served[new] = found.pop("checkpoint")
         check("a lock without a byte", found.pop(".lock") == b"")
         check("the checkpoint of %d" % new, note.split(b"\n")[:3] == [b"example.com/tiles", b"%d" % new, base64.b64encode(rows.root(new))])
         seen.update(rows.tiles(new))
@@ -115,6 +116,7 @@ def is_served(room, verifier, rows):
         check("no entry behind %d" % new, ask("tile-proof", site, verifier, str(new))[0] == 3)
         size = new
     os.remove(room + "/lines")
+    return served
 
 
 def without(site, name):
@@ -359,7 +361,8 @@ def serves_tiles(room, notes):
     paxlog_folders.keys_are_secret(room)
     paxlog_entries.keeps_entries_of_any_bytes(room, verifier, notes)
     rows = Rows()
-    is_served(room, verifier, rows)
+    served = is_served(room, verifier, rows)
+    paxlog_needs.names_what_is_missing(room, verifier, served)
     is_damaged(room, verifier, rows)
     is_witnessed(room, verifier, cosigner, notes, rows)
     keeps_entries(room, verifier, rows)

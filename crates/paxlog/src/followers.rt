@@ -136,8 +136,8 @@ pub fn audit_folder(rt: &HostRuntime, from: &Source) -> Result<Option<Audited>, 
     }
 }
 
-// The size that a head states, where a log has it.
-fn sized(head: &Head) -> Result<usize, Stop>
+/// Returns the size that a head states, where a log has it.
+pub fn sized(head: &Head) -> Result<usize, Stop>
     ensures { IfOk result (λ size. size < 2 ^ 63) }
 {
     if is_size(head.size) {

@@ -11,6 +11,7 @@ mod folders;
 mod followers;
 mod input;
 mod keeping;
+mod needing;
 mod patience;
 mod picture;
 mod progress;
@@ -281,6 +282,7 @@ fn carry_out(rt: &HostRuntime, request: Request, words: &[Vec<u8>]) -> Result<u8
             entries,
             from,
         } => signed::keep_command(rt, words, &site, entries, from),
+        Request::Needs { site, needed } => signed::needs(rt, words, &site, needed),
         Request::Follow { site, state } => signed::follow(rt, words, &site, state),
         Request::TileProof {
             site,

@@ -2,6 +2,7 @@
 
 use crate::appending::bytes_of_file;
 use crate::followers::Source;
+use crate::needing::{needed_to_follow, needed_to_prove};
 use crate::replying::{replied, request_bytes};
 use crate::saying::{say, say_audited, say_checkpoint, say_head, say_receipt, say_verdict};
 use crate::signers::{policy_text, signers_of};
@@ -10,7 +11,7 @@ use crate::words::{folder_name, name_of_word, origin_of};
 use crate::{checkpoints, followers};
 use log_checkpoints::{verify_receipt, write_receipt};
 use paxlog_run::replies::line_of;
-use paxlog_run::request::{Entries, Keyed, Signers, Site, Word};
+use paxlog_run::request::{Entries, Keyed, Needed, Signers, Site, Word};
 use signed_notes::Policy;
 
 /// What the checkpoint of a file states, where it is signed as is asked for.
@@ -93,6 +94,23 @@ pub fn keep_command(
         rt,
         &followers::keep_in_folder(rt, &from, words, entries, first)?,
     )
+}
+
+/// Names the tiles that a folder lacks, for a follower or for a proof.
+pub fn needs(
+    rt: &HostRuntime,
+    words: &[Vec<u8>],
+    site: &Site,
+    needed: Needed,
+) -> Result<u8, StopAt> {
+    let text = policy_text(rt, words, site.signers)?;
+    let by = signers_of(rt.alloc(), words, site.signers, &text)?;
+    let from = source_of(words, site, by.policy())?;
+    let names = match needed {
+        Needed::State(state) => needed_to_follow(rt, &from, folder_name(words, state)?)?,
+        Needed::Entry(index) => placed(from.folder.place, needed_to_prove(rt, &from, index))?,
+    };
+    say(rt, &names)
 }
 
 /// Moves a follower's state on.

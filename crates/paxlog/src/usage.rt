@@ -4,7 +4,7 @@ use crate::stop::Stop;
 use std::alloc::Global;
 
 // The words of each command, behind `paxlog`.
-const LINES: [&str; 29] = [
+const LINES: [&str; 31] = [
     "append LOG [--after SIZE ROOT] [--wait SECONDS] [--keep FOLDER] [--] FILE ..",
     "append-lines LOG [--after SIZE ROOT] [--wait SECONDS] [--keep FOLDER] [--batch COUNT [--publish FOLDER --key KEYFILE [--origin ORIGIN] [--every MILLISECONDS]]] [--] FILE",
     "root LOG [SIZE]",
@@ -27,6 +27,8 @@ const LINES: [&str; 29] = [
     "keep-bundles FOLDER KEY FILE [ORIGIN] [--from INDEX] [--wait SECONDS]",
     "keep-files FOLDER KEY [--origin ORIGIN] FILE .. [--from INDEX] [--wait SECONDS]",
     "follow FOLDER KEY|--policy POLICY STATE [ORIGIN] [--wait SECONDS]",
+    "needs FOLDER KEY|--policy POLICY STATE [ORIGIN]",
+    "needs-entry FOLDER KEY|--policy POLICY INDEX [ORIGIN]",
     "tile-proof FOLDER KEY|--policy POLICY INDEX [ORIGIN]",
     "receipt FOLDER KEY|--policy POLICY INDEX [ORIGIN]",
     "verify-receipt KEY|--policy POLICY FILE RECEIPT [ORIGIN]",

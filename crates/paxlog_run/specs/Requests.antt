@@ -18,8 +18,9 @@ use Rattle.paxlog_run.specs.declared.request.Signers.TheVariants.{Key, Policy}
 use Rattle.paxlog_run.specs.declared.request.parts.SignersAt.{SignersAt}
 use Rattle.paxlog_run.specs.declared.request.Site.{Site}
 use Rattle.paxlog_run.specs.declared.request.Entries.TheVariants.{Lines, Bundles, Files}
+use Rattle.paxlog_run.specs.declared.request.Needed.TheVariants.{State, Entry}
 use Rattle.paxlog_run.specs.declared.request.keeps.FromAt.{FromAt}
-use Rattle.paxlog_run.specs.declared.request.Request.TheVariants.{Append, AppendLines, Root, Prove, Show, Consistency, Check, Find, Recover, Verify, VerifyConsistency, Keygen, Checkpoint, VerifyCheckpoint, Tiles, Audit, Follow, Keep, TileProof, VerifyReceipt, Witness, WitnessRequest, Help, Version}
+use Rattle.paxlog_run.specs.declared.request.Request.TheVariants.{Append, AppendLines, Root, Prove, Show, Consistency, Check, Find, Recover, Verify, VerifyConsistency, Keygen, Checkpoint, VerifyCheckpoint, Tiles, Audit, Follow, Keep, Needs, TileProof, VerifyReceipt, Witness, WitnessRequest, Help, Version}
 
 -- the digest that a word spells in hexadecimal
 abbrev pub digest_in_hex : List ℕ → Option Digest
@@ -374,6 +375,21 @@ follow_request words =
       count ← counted words (at.next + 1) (at.next + 2)
       Ok (Follow (site_by at.signers (origin_at words (at.next + 1))) (typed_at at.next))
 
+-- needs FOLDER SIGNERS STATE [ORIGIN]
+abbrev pub needs_request : List (List ℕ) → Read Request
+needs_request words =
+    let at = signers_at words 2 in do
+      count ← counted words (at.next + 1) (at.next + 2)
+      Ok (Needs (site_by at.signers (origin_at words (at.next + 1))) (State (typed_at at.next)))
+
+-- needs-entry FOLDER SIGNERS INDEX [ORIGIN]
+abbrev pub needs_entry_request : List (List ℕ) → Read Request
+needs_entry_request words =
+    let at = signers_at words 2 in do
+      count ← counted words (at.next + 1) (at.next + 2)
+      index ← number_word_at words at.next
+      Ok (Needs (site_by at.signers (origin_at words (at.next + 1))) (Entry index))
+
 -- tile-proof FOLDER SIGNERS INDEX [ORIGIN], or receipt
 abbrev pub tile_proof_request : List (List ℕ) → Bool → Read Request
 tile_proof_request words is_receipt =
@@ -403,21 +419,28 @@ witness_reply_request words =
       keyed ← keyed_at words (at.next + 1)
       Ok (WitnessRequest at.signers (typed_at at.next) keyed)
 
--- what is asked for by a word about folders of tiles, the first of all
-unfoldable pub asked_of_tiles : List ℕ → List (List ℕ) → Read Request
-asked_of_tiles word words =
-    if bytes_eq word (codes "tiles") then tiles_request words
-    else if bytes_eq word (codes "audit") then audit_request words
-    else if bytes_eq word (codes "follow") then follow_request words
-    else if bytes_eq word (codes "keep") then keep_request words false
-    else if bytes_eq word (codes "keep-bundles") then keep_request words true
-    else if bytes_eq word (codes "keep-files") then keep_files_request words
+-- what is asked for by a word about those who follow a log, the first of all
+unfoldable pub asked_of_followers : List ℕ → List (List ℕ) → Read Request
+asked_of_followers word words =
+    if bytes_eq word (codes "follow") then follow_request words
+    else if bytes_eq word (codes "needs") then needs_request words
+    else if bytes_eq word (codes "needs-entry") then needs_entry_request words
     else if bytes_eq word (codes "tile-proof") then tile_proof_request words false
     else if bytes_eq word (codes "receipt") then tile_proof_request words true
     else if bytes_eq word (codes "verify-receipt") then verify_receipt_request words
     else if bytes_eq word (codes "witness") then witness_request words
     else if bytes_eq word (codes "witness-request") then witness_reply_request words
     else Err (NoCommand 0)
+
+-- what is asked for by a word about folders of tiles, the first of all
+unfoldable pub asked_of_tiles : List ℕ → List (List ℕ) → Read Request
+asked_of_tiles word words =
+    if bytes_eq word (codes "tiles") then tiles_request words
+    else if bytes_eq word (codes "audit") then audit_request words
+    else if bytes_eq word (codes "keep") then keep_request words false
+    else if bytes_eq word (codes "keep-bundles") then keep_request words true
+    else if bytes_eq word (codes "keep-files") then keep_files_request words
+    else asked_of_followers word words
 
 -- what is asked for by a word about checkpoints, the first of all
 abbrev pub asked_of_checkpoints : List ℕ → List (List ℕ) → Read Request

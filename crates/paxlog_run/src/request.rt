@@ -104,6 +104,15 @@ pub enum Entries {
     Files { first: usize, end: usize },
 }
 
+/// For what the tiles of a folder are needed.
+#[derive(Clone, Copy)]
+pub enum Needed {
+    /// STATE is to move on to the checkpoint.
+    State(Word),
+    /// The entry at an index is to be proved.
+    Entry(usize),
+}
+
 /// What is asked for, with the words that say it.
 #[derive(Clone, Copy)]
 pub enum Request {
@@ -184,6 +193,11 @@ pub enum Request {
         entries: Entries,
         /// The index of the first of these entries; that of what is not kept yet, of all entries, where none is named.
         from: Option<usize>,
+    },
+    /// The names of the tiles that are missing.
+    Needs {
+        site: Site,
+        needed: Needed,
     },
     Follow {
         site: Site,

@@ -1,13 +1,13 @@
 //! What is asked for by words about checkpoints and tiles.
 
 ghost use Rattle.std.specs.Prelude.{◌≡◌, map, vec_items};
-ghost use Rattle.paxlog_run.specs.Requests.{asked_of_checkpoints, asked_of_tiles, audit_request, checkpoint_request, follow_request, keygen_request, tile_proof_request, tiles_request, verify_checkpoint_request, verify_receipt_request, witness_reply_request, witness_request};
+ghost use Rattle.paxlog_run.specs.Requests.{asked_of_checkpoints, asked_of_followers, asked_of_tiles, audit_request, checkpoint_request, follow_request, keygen_request, needs_entry_request, needs_request, tile_proof_request, tiles_request, verify_checkpoint_request, verify_receipt_request, witness_reply_request, witness_request};
 
 use crate::request::keeps::{keep_files_request, keep_request};
 use crate::request::parts::{
     counted, keyed_at, number_word_at, origin_at, signers_at, site_by, typed_at,
 };
-use crate::request::{Keyed, Misuse, Request};
+use crate::request::{Keyed, Misuse, Needed, Request};
 
 // The new key that is asked for.
 fn keygen_request(words: &[Vec<u8>], is_witness: bool) -> Result<Request, Misuse>
@@ -78,6 +78,30 @@ fn follow_request(words: &[Vec<u8>]) -> Result<Request, Misuse>
     })
 }
 
+// The names of tiles that are asked for, by which a state is to follow.
+fn needs_request(words: &[Vec<u8>]) -> Result<Request, Misuse>
+    ensures { result ≡ needs_request (map vec_items words.now) }
+{
+    let at = signers_at(words, 2);
+    counted(words, at.next + 1, at.next + 2)?;
+    Ok(Request::Needs {
+        site: site_by(at.signers, origin_at(words, at.next + 1)),
+        needed: Needed::State(typed_at(at.next)),
+    })
+}
+
+// The names of tiles that are asked for, by which an entry is to be proved.
+fn needs_entry_request(words: &[Vec<u8>]) -> Result<Request, Misuse>
+    ensures { result ≡ needs_entry_request (map vec_items words.now) }
+{
+    let at = signers_at(words, 2);
+    counted(words, at.next + 1, at.next + 2)?;
+    Ok(Request::Needs {
+        site: site_by(at.signers, origin_at(words, at.next + 1)),
+        needed: Needed::Entry(number_word_at(words, at.next)?),
+    })
+}
+
 // The inclusion proof by tiles that is asked for, as a receipt or alone.
 fn tile_proof_request(words: &[Vec<u8>], is_receipt: bool) -> Result<Request, Misuse>
     ensures { result ≡ tile_proof_request (map vec_items words.now) is_receipt }
@@ -130,23 +154,17 @@ fn witness_reply_request(words: &[Vec<u8>]) -> Result<Request, Misuse>
     })
 }
 
-// What is asked for by a word that is about folders of tiles, the first of all.
-#[tactic(auto, unfolding(crate::specs::Requests::asked_of_tiles))]
-fn asked_of_tiles(word: &[u8], words: &[Vec<u8>]) -> Result<Request, Misuse>
-    ensures { result ≡ asked_of_tiles word.now (map vec_items words.now) }
+// What is asked for by a word that is about those who follow a log, the first of all.
+#[tactic(auto, unfolding(crate::specs::Requests::asked_of_followers))]
+fn asked_of_followers(word: &[u8], words: &[Vec<u8>]) -> Result<Request, Misuse>
+    ensures { result ≡ asked_of_followers word.now (map vec_items words.now) }
 {
-    if word == b"tiles".as_slice() {
-        tiles_request(words)
-    } else if word == b"audit".as_slice() {
-        audit_request(words)
-    } else if word == b"follow".as_slice() {
+    if word == b"follow".as_slice() {
         follow_request(words)
-    } else if word == b"keep".as_slice() {
-        keep_request(words, false)
-    } else if word == b"keep-bundles".as_slice() {
-        keep_request(words, true)
-    } else if word == b"keep-files".as_slice() {
-        keep_files_request(words)
+    } else if word == b"needs".as_slice() {
+        needs_request(words)
+    } else if word == b"needs-entry".as_slice() {
+        needs_entry_request(words)
     } else if word == b"tile-proof".as_slice() {
         tile_proof_request(words, false)
     } else if word == b"receipt".as_slice() {
@@ -159,6 +177,26 @@ fn asked_of_tiles(word: &[u8], words: &[Vec<u8>]) -> Result<Request, Misuse>
         witness_reply_request(words)
     } else {
         Err(Misuse::NoCommand(0))
+    }
+}
+
+// What is asked for by a word that is about folders of tiles, the first of all.
+#[tactic(auto, unfolding(crate::specs::Requests::asked_of_tiles))]
+fn asked_of_tiles(word: &[u8], words: &[Vec<u8>]) -> Result<Request, Misuse>
+    ensures { result ≡ asked_of_tiles word.now (map vec_items words.now) }
+{
+    if word == b"tiles".as_slice() {
+        tiles_request(words)
+    } else if word == b"audit".as_slice() {
+        audit_request(words)
+    } else if word == b"keep".as_slice() {
+        keep_request(words, false)
+    } else if word == b"keep-bundles".as_slice() {
+        keep_request(words, true)
+    } else if word == b"keep-files".as_slice() {
+        keep_files_request(words)
+    } else {
+        asked_of_followers(word, words)
     }
 }
 
