@@ -8,6 +8,7 @@ import signal
 import subprocess
 import time
 
+import paxlog_cosigning
 import paxlog_entries
 import paxlog_folders
 import paxlog_needs
@@ -356,6 +357,7 @@ def serves_tiles(room, notes):
     paxlog_folders.works_while_others_append(room, verifier)
     paxlog_folders.needs_a_state(room, verifier, notes)
     paxlog_policies.asks_by_policy(room, verifier, notes)
+    paxlog_cosigning.joins_cosignatures(room, verifier, notes)
     paxlog_requests.replies(room, verifier, cosigner, notes)
     paxlog_folders.is_on_the_disk(room, verifier)
     paxlog_folders.keys_are_secret(room)

@@ -208,6 +208,11 @@ pub fn complain(rt: &HostRuntime, words: &[Vec<u8>], stop: StopAt) -> u8 {
             let _ = eprintln!(rt; "the folder lacks entries of the log: `paxlog keep` keeps them");
             REFUSED
         }
+        Stop::OtherCheckpoint => {
+            begin(rt, words, place);
+            let _ = eprintln!(rt; "the note is of another checkpoint");
+            REFUSED
+        }
         Stop::Shrunk => {
             begin(rt, words, place);
             let _ = eprintln!(rt; "the log has fewer entries than it had");

@@ -4,6 +4,7 @@ ghost use Rattle.std.specs.Prelude.{◌≡◌, ◌≤◌, ◌<◌, ◌^◌, IfOk
 ghost use Rattle.log_file.specs.LogFile.{file_end};
 
 use crate::checkpoints::{note_of, signed_by};
+use crate::cosigning::note_that_stays;
 use crate::file_disk::FileDisk;
 use crate::followers::{checkpoint_name, log_in_folder, nothing, stated_by_signer};
 use crate::published_folder::PublishedFolder;
@@ -250,7 +251,8 @@ pub fn publish(
     let old = placed(folder.place, stated)?;
     let mut into = PublishedFolder::new(rt, folder.text);
     let written = write_meanwhile(rt, old, log, folder, &mut into)?;
-    let (head, note) = sign_all(rt, &written, &signer, origin, log, folder, &mut into)?;
+    let (head, new) = sign_all(rt, &written, &signer, origin, log, folder, &mut into)?;
+    let note = placed(folder.place, note_that_stays(rt, checkpoint.as_str(), new))?;
     placed(folder.place, put_checkpoint(&mut into, &note))?;
     Ok(head)
 }

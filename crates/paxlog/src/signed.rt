@@ -1,6 +1,7 @@
 //! Commands about checkpoints, whose words say who has to sign them.
 
 use crate::appending::bytes_of_file;
+use crate::cosigning::cosign_in_folder;
 use crate::followers::Source;
 use crate::needing::{needed_to_follow, needed_to_prove};
 use crate::replying::{replied, request_bytes};
@@ -94,6 +95,19 @@ pub fn keep_command(
         rt,
         &followers::keep_in_folder(rt, &from, words, entries, first)?,
     )
+}
+
+/// Puts cosignatures to the checkpoint of a folder.
+pub fn cosign(
+    rt: &HostRuntime,
+    words: &[Vec<u8>],
+    site: &Site,
+    files: usize,
+) -> Result<u8, StopAt> {
+    let text = policy_text(rt, words, site.signers)?;
+    let by = signers_of(rt.alloc(), words, site.signers, &text)?;
+    let from = source_of(words, site, by.policy())?;
+    say_head(rt, &cosign_in_folder(rt, &from, words, files)?)
 }
 
 /// Names the tiles that a folder lacks, for a follower or for a proof.

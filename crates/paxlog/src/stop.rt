@@ -36,6 +36,8 @@ pub enum Stop {
     Unfinished,
     /// A folder lacks entries that the log has.
     Behind,
+    /// A note is one of another checkpoint.
+    OtherCheckpoint,
     /// The log has fewer entries than it had.
     Shrunk,
     /// The log does not continue the one that it was.

@@ -4,7 +4,7 @@ use crate::stop::Stop;
 use std::alloc::Global;
 
 // The words of each command, behind `paxlog`.
-const LINES: [&str; 31] = [
+const LINES: [&str; 32] = [
     "append LOG [--after SIZE ROOT] [--wait SECONDS] [--keep FOLDER] [--] FILE ..",
     "append-lines LOG [--after SIZE ROOT] [--wait SECONDS] [--keep FOLDER] [--batch COUNT [--publish FOLDER --key KEYFILE [--origin ORIGIN] [--every MILLISECONDS]]] [--] FILE",
     "root LOG [SIZE]",
@@ -22,6 +22,7 @@ const LINES: [&str; 31] = [
     "checkpoint LOG --key KEYFILE [--origin ORIGIN] [--wait SECONDS]",
     "verify-checkpoint KEY|--policy POLICY FILE [ORIGIN]",
     "tiles LOG FOLDER --key KEYFILE [--origin ORIGIN] [--wait SECONDS]",
+    "cosign FOLDER --policy POLICY FILE .. [--wait SECONDS]",
     "audit FOLDER KEY|--policy POLICY [ORIGIN]",
     "keep FOLDER KEY FILE [ORIGIN] [--from INDEX] [--wait SECONDS]",
     "keep-bundles FOLDER KEY FILE [ORIGIN] [--from INDEX] [--wait SECONDS]",

@@ -20,7 +20,7 @@ use Rattle.paxlog_run.specs.declared.request.Site.{Site}
 use Rattle.paxlog_run.specs.declared.request.Entries.TheVariants.{Lines, Bundles, Files}
 use Rattle.paxlog_run.specs.declared.request.Needed.TheVariants.{State, Entry}
 use Rattle.paxlog_run.specs.declared.request.keeps.FromAt.{FromAt}
-use Rattle.paxlog_run.specs.declared.request.Request.TheVariants.{Append, AppendLines, Root, Prove, Show, Consistency, Check, Find, Recover, Verify, VerifyConsistency, Keygen, Checkpoint, VerifyCheckpoint, Tiles, Audit, Follow, Keep, Needs, TileProof, VerifyReceipt, Witness, WitnessRequest, Help, Version}
+use Rattle.paxlog_run.specs.declared.request.Request.TheVariants.{Append, AppendLines, Root, Prove, Show, Consistency, Check, Find, Recover, Verify, VerifyConsistency, Keygen, Checkpoint, VerifyCheckpoint, Tiles, Cosign, Audit, Follow, Keep, Needs, TileProof, VerifyReceipt, Witness, WitnessRequest, Help, Version}
 
 -- the digest that a word spells in hexadecimal
 abbrev pub digest_in_hex : List ℕ → Option Digest
@@ -331,6 +331,12 @@ tiles_request words = do
   keyed ← keyed_at words 3
   Ok (Tiles (typed_at 1) (typed_at 2) keyed)
 
+-- cosign FOLDER SIGNERS FILE ..
+abbrev pub cosign_request : List (List ℕ) → Read Request
+cosign_request words =
+    let at = signers_at words 2 in
+    if nat_lt at.next (length words) then Ok (Cosign (site_by at.signers None) at.next) else Err TooFew
+
 -- audit FOLDER SIGNERS [ORIGIN]
 abbrev pub audit_request : List (List ℕ) → Read Request
 audit_request words =
@@ -436,6 +442,7 @@ asked_of_followers word words =
 unfoldable pub asked_of_tiles : List ℕ → List (List ℕ) → Read Request
 asked_of_tiles word words =
     if bytes_eq word (codes "tiles") then tiles_request words
+    else if bytes_eq word (codes "cosign") then cosign_request words
     else if bytes_eq word (codes "audit") then audit_request words
     else if bytes_eq word (codes "keep") then keep_request words false
     else if bytes_eq word (codes "keep-bundles") then keep_request words true
@@ -488,8 +495,8 @@ request_of_words words = if nat_lt 0 (length words) then asked_of_logs (get_or w
 -- whether a command waits for another process by the words at its end
 abbrev pub waits_at_end : List ℕ → Bool
 waits_at_end word =
-    bytes_eq word (codes "checkpoint") || bytes_eq word (codes "tiles") || bytes_eq word (codes "recover")
-    || bytes_eq word (codes "keep") || bytes_eq word (codes "keep-bundles") || bytes_eq word (codes "keep-files")
+    bytes_eq word (codes "checkpoint") || bytes_eq word (codes "tiles") || bytes_eq word (codes "cosign")
+    || bytes_eq word (codes "recover") || bytes_eq word (codes "keep") || bytes_eq word (codes "keep-bundles") || bytes_eq word (codes "keep-files")
     || bytes_eq word (codes "follow") || bytes_eq word (codes "witness")
 
 -- how many words stand before --wait SECONDS at their end, and the seconds: all and 0 where it does not stand there

@@ -185,6 +185,11 @@ pub enum Request {
         folder: Word,
         keyed: Keyed,
     },
+    /// Cosignatures of the folder's checkpoint, which files have: each word from a place on is a FILE.
+    Cosign {
+        site: Site,
+        files: usize,
+    },
     Audit {
         site: Site,
     },

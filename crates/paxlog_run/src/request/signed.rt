@@ -1,7 +1,7 @@
 //! What is asked for by words about checkpoints and tiles.
 
 ghost use Rattle.std.specs.Prelude.{◌≡◌, map, vec_items};
-ghost use Rattle.paxlog_run.specs.Requests.{asked_of_checkpoints, asked_of_followers, asked_of_tiles, audit_request, checkpoint_request, follow_request, keygen_request, needs_entry_request, needs_request, tile_proof_request, tiles_request, verify_checkpoint_request, verify_receipt_request, witness_reply_request, witness_request};
+ghost use Rattle.paxlog_run.specs.Requests.{asked_of_checkpoints, asked_of_followers, asked_of_tiles, audit_request, checkpoint_request, cosign_request, follow_request, keygen_request, needs_entry_request, needs_request, tile_proof_request, tiles_request, verify_checkpoint_request, verify_receipt_request, witness_reply_request, witness_request};
 
 use crate::request::keeps::{keep_files_request, keep_request};
 use crate::request::parts::{
@@ -53,6 +53,21 @@ fn tiles_request(words: &[Vec<u8>]) -> Result<Request, Misuse>
         folder: typed_at(2),
         keyed: keyed_at(words, 3)?,
     })
+}
+
+// That cosignatures are to be joined.
+fn cosign_request(words: &[Vec<u8>]) -> Result<Request, Misuse>
+    ensures { result ≡ cosign_request (map vec_items words.now) }
+{
+    let at = signers_at(words, 2);
+    if at.next < words.len() {
+        Ok(Request::Cosign {
+            site: site_by(at.signers, None),
+            files: at.next,
+        })
+    } else {
+        Err(Misuse::TooFew)
+    }
 }
 
 // The audit that is asked for.
@@ -187,6 +202,8 @@ fn asked_of_tiles(word: &[u8], words: &[Vec<u8>]) -> Result<Request, Misuse>
 {
     if word == b"tiles".as_slice() {
         tiles_request(words)
+    } else if word == b"cosign".as_slice() {
+        cosign_request(words)
     } else if word == b"audit".as_slice() {
         audit_request(words)
     } else if word == b"keep".as_slice() {

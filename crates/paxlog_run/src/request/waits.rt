@@ -19,6 +19,7 @@ fn waits_at_end(word: &[u8]) -> bool
 {
     word == b"checkpoint".as_slice()
         || word == b"tiles".as_slice()
+        || word == b"cosign".as_slice()
         || word == b"recover".as_slice()
         || word == b"keep".as_slice()
         || word == b"keep-bundles".as_slice()
