@@ -9,17 +9,16 @@ use crate::tile::FULL;
 use ark_crh::ArrayHash;
 use ark_trees::LogHasher;
 
-// Puts the hashes of the first pairs, so many, to the front. They are hashed together.
-fn halve(digests: &mut [[u8; 32]; FULL], count: usize)
+// Writes the hashes of the first pairs, so many, to the front of another buffer. They are hashed together.
+fn halve(below: &[[u8; 32]; FULL], into: &mut [[u8; 32]; FULL], count: usize)
     requires { count ≤ 128 }
-    ensures { take count digests.new ≡ complete_pairs node_hash (take (2 * count) digests.old) }
+    ensures { take count into.new ≡ complete_pairs node_hash (take (2 * count) below.now) }
 {
-    let below = *digests;
     let mut couples = [(&below[0], &below[0]); FULL / 2];
     'pairs: for pair in 0..count {
         couples[pair] = (&below[2 * pair], &below[2 * pair + 1]);
     }
-    LogHasher::nodes(&couples[..count], &mut digests[..count]);
+    LogHasher::nodes(&couples[..count], &mut into[..count]);
 }
 
 /// Returns the root of the first 2^height digests, of which the buffer keeps none.
@@ -27,10 +26,16 @@ pub fn halved_root(digests: &mut [[u8; 32]; FULL], height: usize) -> [u8; 32]
     requires { height ≤ 8 }
     ensures { result ≡ get_or (rows_over (take (2 ^ height) digests.old) height) 0 [] }
 {
+    let mut other = [[0; 32]; FULL];
     let mut left = height;
-    'levels: while left > 0 {
-        left -= 1;
-        halve(digests, 1usize << left);
+    'levels: while left > 1 {
+        halve(digests, &mut other, 1usize << (left - 1));
+        halve(&other, digests, 1usize << (left - 2));
+        left -= 2;
     }
-    digests[0]
+    if left == 0 {
+        return digests[0];
+    }
+    halve(digests, &mut other, 1);
+    other[0]
 }

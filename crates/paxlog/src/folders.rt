@@ -6,6 +6,7 @@ use crate::reading::{Regular, open_regular};
 use crate::stop::Stop;
 use log_tiles::{FULL, Tile, Tiles, tile_name};
 use std::alloc::Global;
+use std::cell::RefCell;
 use std::fs::File;
 use std::io;
 use std::os::unix::fs::FileExt;
@@ -54,11 +55,14 @@ pub fn path_of_tile(alloc: Global, folder: &str, tile: Tile) -> Result<String, T
 pub struct FolderTiles<'a> {
     rt: &'a HostRuntime,
     folder: &'a str,
+    // the file of which a single digest was read last: those of the tiles below it are read in turn
+    last: RefCell<Option<TileFile>>,
 }
 
 // The open file of a tile, its name, and how many digests it has.
 #[derive(Drop)]
 struct TileFile {
+    tile: Tile,
     opened: Regular,
     name: String,
     width: usize,
@@ -66,7 +70,11 @@ struct TileFile {
 
 impl<'a> FolderTiles<'a> {
     pub fn new(rt: &'a HostRuntime, folder: &'a str) -> FolderTiles<'a> {
-        FolderTiles { rt, folder }
+        FolderTiles {
+            rt,
+            folder,
+            last: RefCell::new(None),
+        }
     }
 
     // Opens the file of a tile; where there is none, that of the full tile at its place, which has its digests too.
@@ -75,6 +83,7 @@ impl<'a> FolderTiles<'a> {
         let name = path_of_tile(alloc, self.folder, tile)?;
         match open_regular(self.rt, name.as_str()) {
             Ok(opened) => Ok(TileFile {
+                tile,
                 opened,
                 name,
                 width: tile.width,
@@ -88,6 +97,7 @@ impl<'a> FolderTiles<'a> {
                 let whole = path_of_tile(alloc, self.folder, full)?;
                 match open_regular(self.rt, whole.as_str()) {
                     Ok(opened) => Ok(TileFile {
+                        tile,
                         opened,
                         name: whole,
                         width: FULL,
@@ -112,6 +122,33 @@ fn read_tile_digests(file: &File, from: usize, into: &mut [[u8; 32]]) -> io::Res
     Ok(())
 }
 
+// Reads digests of a tile, and returns its file.
+fn read_from(file: TileFile, from: usize, into: &mut [[u8; 32]]) -> Result<TileFile, TileFault> {
+    let TileFile {
+        tile,
+        opened,
+        name,
+        width,
+    } = file;
+    let is_inside = from.saturating_add(into.len()) <= tile.width.min(FULL);
+    if opened.length != width.saturating_mul(32) || !is_inside {
+        return Err(TileFault::Length { name });
+    }
+    match read_tile_digests(&opened.file, from, into) {
+        Ok(()) => Ok(TileFile {
+            tile,
+            opened,
+            name,
+            width,
+        }),
+        Err(error) => Err(TileFault::System { name, error }),
+    }
+}
+
+fn is_same_tile(one: Tile, other: Tile) -> bool {
+    one.level == other.level && one.index == other.index && one.width == other.width
+}
+
 impl<'a> Tiles for FolderTiles<'a> {
     type Refusal = TileFault;
 
@@ -120,18 +157,20 @@ impl<'a> Tiles for FolderTiles<'a> {
     ghost has = { λ _ _. [] };
 
     fn read(&self, tile: Tile, from: usize, into: &mut [[u8; 32]]) -> Result<(), TileFault> {
-        let TileFile {
-            opened,
-            name,
-            width,
-        } = self.open(tile)?;
-        let is_inside = from.saturating_add(into.len()) <= tile.width.min(FULL);
-        if opened.length != width.saturating_mul(32) || !is_inside {
-            return Err(TileFault::Length { name });
+        if into.len() != 1 {
+            read_from(self.open(tile)?, from, into)?;
+            return Ok(());
         }
-        match read_tile_digests(&opened.file, from, into) {
-            Ok(()) => Ok(()),
-            Err(error) => Err(TileFault::System { name, error }),
+        match self.last.try_borrow_mut() {
+            Ok(mut last) => {
+                let file = match last.take() {
+                    Some(file) if is_same_tile(file.tile, tile) => file,
+                    _ => self.open(tile)?,
+                };
+                *last = Some(read_from(file, from, into)?);
+                Ok(())
+            }
+            Err(_) => Err(TileFault::Memory),
         }
     }
 }

@@ -12,7 +12,7 @@ hash c = node_hash c.0.now c.1.now
 pub pairs-preserved : goal.pairs-preserved
 pairs-preserved c =
     let p = c.pairs.pair in
-    let below = c.args.digests.now in
+    let below = c.args.below.now in
     let at = c.pairs.invariant in
     let two : suc (suc (2 * p)) ≡ 2 * (p + 1) = omega arith in
     let one : 2 * p + 1 ≡ suc (2 * p) = omega arith in
@@ -37,4 +37,4 @@ returns c =
     let all : c.pairs.pair ≡ count = omega arith in
     take-append-le count made _ (omega (arith, long)) ∙ take_all count made (omega (arith, long)) ∙ c.nodes.ensures
     ∙ ap (λ n. map hash (take n c.pairs.couples)) (sym all) ∙ c.pairs.invariant.made
-    ∙ ap (λ n. complete_pairs node_hash (take (2 * n) c.args.digests.now)) all
+    ∙ ap (λ n. complete_pairs node_hash (take (2 * n) c.args.below.now)) all

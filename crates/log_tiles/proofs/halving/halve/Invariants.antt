@@ -7,5 +7,5 @@ abbrev pub invariant-pairs : goal.invariant-pairs
 invariant-pairs l = record {
   long : length l.couples ≡ 128;
   made : map (λ (c : Bor (List ℕ) × Bor (List ℕ)). node_hash c.0.now c.1.now) (take l.pair l.couples)
-      ≡ complete_pairs node_hash (take (2 * l.pair) l.initial.digests);
+      ≡ complete_pairs node_hash (take (2 * l.pair) l.below);
 }
