@@ -4,9 +4,9 @@
 #![tactic(auto)]
 
 mod elements;
+mod forms;
 mod frame;
 mod hash;
-mod forms;
 mod table;
 
 pub use elements::ByteOrder;

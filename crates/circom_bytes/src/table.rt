@@ -9,9 +9,9 @@ ghost use Rattle.circom_bytes.specs.Hash.{circom_instance, hash_outcome, is_elem
 ghost use Rattle.poseidon_grain.specs.Constants.{IsMatrixFault};
 
 use crate::elements::{ByteOrder, element_bytes, element_of};
+use crate::forms::{put_forms, read_forms};
 use crate::frame::{count_for, inputs_of, put_sum, shape_for};
 use crate::hash::{hash_elements, hash_state};
-use crate::forms::{put_forms, read_forms};
 use ark_base::error::{Error, SerializationError};
 use ark_groups::ff::{Field, Valued};
 use ark_poseidon_parameters::Power;

@@ -15,7 +15,7 @@ use ark_sponge::poseidon::PoseidonConfig;
 use ark_wide_fields::{Bls12_381Fr, Bn254Fr};
 use paxidore_calls::buffer::hand_over;
 use paxidore_calls::refused::Refused;
-use paxidore_calls::transcript::forms::{Scaled, Own};
+use paxidore_calls::transcript::forms::{Own, Scaled};
 use paxidore_calls::transcript::parameters::prepared_bytes;
 use paxidore_calls::transcript::steps::{
     Given, begun, bytes_given, elements_squeezed, with_bytes, with_elements,

@@ -94,7 +94,10 @@ pub fn cosign_in_folder(
         witnesses: &[],
         quorum: 0,
     };
-    let head = placed(place, stated_by_note(rt, &by_log, path.as_str(), from.origin))?;
+    let head = placed(
+        place,
+        stated_by_note(rt, &by_log, path.as_str(), from.origin),
+    )?;
     placed(place, write_note(rt, path.as_str(), &note))?;
     Ok(head)
 }

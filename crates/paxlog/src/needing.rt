@@ -2,8 +2,8 @@
 
 ghost use Rattle.std.specs.Prelude.{◌<◌, ◌^◌};
 
-use crate::followers::{Published, Source, read_checkpoint, sized, stated_by_note};
 use crate::folders::path_of_tile;
+use crate::followers::{Published, Source, read_checkpoint, sized, stated_by_note};
 use crate::reading::is_there;
 use crate::stop::{Stop, StopAt, placed};
 use crate::words::Name;
