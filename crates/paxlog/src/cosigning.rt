@@ -32,7 +32,7 @@ fn have_one_like(signatures: &[Signature], signature: &Signature) -> bool {
 
 // The note with the signatures by these witnesses that another note of the same text has. That of the other counts where both have one by
 // a key.
-fn joined(
+fn with_cosignatures(
     alloc: Global,
     note: &[u8],
     other: &[u8],
@@ -86,7 +86,7 @@ pub fn cosign_in_folder(
     for file in files..words.len() {
         let name = name_of_word(words, Word { place: file })?;
         let other = placed(file, note_bytes(rt, name.text))?;
-        let more = joined(rt.alloc(), &note, &other, from.policy.witnesses);
+        let more = with_cosignatures(rt.alloc(), &note, &other, from.policy.witnesses);
         note = placed(file, more)?;
     }
     let by_log = Policy {

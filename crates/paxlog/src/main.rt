@@ -283,7 +283,7 @@ fn carry_out(rt: &HostRuntime, request: Request, words: &[Vec<u8>]) -> Result<u8
             entries,
             from,
         } => signed::keep_command(rt, words, &site, entries, from),
-        Request::Cosign { site, files } => signed::cosign(rt, words, &site, files),
+        Request::Cosign { site, files } => signed::cosign_command(rt, words, &site, files),
         Request::Needs { site, needed } => signed::needs(rt, words, &site, needed),
         Request::Follow { site, state } => signed::follow(rt, words, &site, state),
         Request::TileProof {

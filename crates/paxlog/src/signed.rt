@@ -98,7 +98,7 @@ pub fn keep_command(
 }
 
 /// Puts cosignatures to the checkpoint of a folder.
-pub fn cosign(
+pub fn cosign_command(
     rt: &HostRuntime,
     words: &[Vec<u8>],
     site: &Site,
