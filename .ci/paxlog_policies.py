@@ -2,6 +2,7 @@
 import hashlib
 import os
 import shutil
+import time
 
 from paxlog_folders import audited, grown, said_of
 from paxlog_model import ask, check, read, write
@@ -94,6 +95,21 @@ def asks_by_policy(room, verifier, notes):
         check("too few: %s" % words[0], ask(*words) == (refused[0], refused[1], refused[2] % place))
     write(receipt, lines.replace(two.line(text, 1700000000), "").encode())
     check("too few for a receipt", ask("verify-receipt", *own, entry, receipt) == few)
+    now, own = int(time.time()), by("quorum both")
+    for ages, seconds, wanted in (((5, 5), 100, said), ((5, 500), 100, few), ((500, 5), 100, few), ((500, 500), 1000, said), ((5, -500), 100, said)):
+        write(checkpoint, (note + "".join(key.line(text, now - age) for key, age in zip((one, two), ages))).encode())
+        lately = (*own, "--not-older-than", seconds)
+        check("of %s seconds, asked: %d" % (ages, seconds), ask("verify-checkpoint", *lately, checkpoint) == wanted)
+        stale = (refused[0], refused[1], refused[2] % site)
+        for words, done in (("audit", audited(5, 0)), ("tile-proof", ask("prove", log, 3)), ("follow", said), ("needs", (0, "", ""))):
+            more = {"tile-proof": (3,), "follow": (state,), "needs": (state,)}.get(words, ())
+            check("%s: lately" % words, ask(words, site, *lately, *more) == (done if wanted == said else stale))
+        status, lines, _ = ask("receipt", site, *own, 3)
+        write(receipt, lines.encode())
+        check("its receipt", status == 0 and ask("verify-receipt", *lately, entry, receipt) == wanted)
+    check("no SECONDS", ask("audit", site, *own, "--not-older-than")[:2] == (2, ""))
+    check("SECONDS that are no number", ask("audit", site, *own, "--not-older-than", "1x")[:2] == (2, ""))
+    check("a witness that replies takes none", ask("witness-request", *lately, state, "--key", room + "/witness-key")[:2] == (2, ""))
     for lines, why in NO_POLICIES:
         own = by(lines)
         count = (whole + lines).count("\n") + (lines != "")

@@ -1,5 +1,6 @@
 //! Keys, and checkpoints that are signed and verified.
 
+use crate::aging::lately_signed;
 use crate::file_disk::FileDisk;
 use crate::reading::key_file_bytes;
 use crate::stop::{Stop, StopAt, placed};
@@ -108,14 +109,21 @@ pub fn verifier(alloc: Global, words: &[Vec<u8>], key: Word) -> Result<Verifier<
     }
 }
 
-/// Returns the size and the root that a checkpoint states, where it is signed as a policy asks and its origin is this one.
+/// Returns the size and the root that a checkpoint states, where it is signed as a policy asks and its origin is this one. What witnesses
+/// signed before a time counts for nothing, where one is named.
 pub fn opened(
     alloc: Global,
     policy: &Policy,
+    since: Option<u64>,
     note: &[u8],
     origin: &str,
 ) -> Result<(usize, [u8; 32]), signed_notes::Fault> {
-    let Checkpoint { size, root, .. } = open_checkpoint(alloc, note, origin, policy)?;
+    let Some(since) = since else {
+        let Checkpoint { size, root, .. } = open_checkpoint(alloc, note, origin, policy)?;
+        return Ok((size, root));
+    };
+    let late = lately_signed(alloc, note, policy.witnesses, since)?;
+    let Checkpoint { size, root, .. } = open_checkpoint(alloc, &late, origin, policy)?;
     Ok((size, root))
 }
 

@@ -1,5 +1,6 @@
 //! Cosignatures of a folder's checkpoint, which witnesses sent apart.
 
+use crate::aging::lately_signed;
 use crate::followers::{Source, checkpoint_name, stated_by_note, write_note};
 use crate::reading::{if_found, note_bytes};
 use crate::stop::{Stop, StopAt, placed};
@@ -10,8 +11,8 @@ use paxlog_run::request::Word;
 use signed_notes::{Note, Policy, Signature, Verified, Verifier, read, verify, write};
 use std::alloc::Global;
 
-// Whether a signature names one of these keys.
-fn is_of_any(keys: &[Verifier], signature: &Signature) -> bool {
+/// Returns whether a signature names one of these keys.
+pub fn is_of_any(keys: &[Verifier], signature: &Signature) -> bool {
     for key in keys {
         if key.name == signature.name && key.hash() == signature.hash {
             return true;
@@ -70,6 +71,20 @@ fn with_cosignatures(
     Ok(write(alloc, text, &signatures)?)
 }
 
+// The note of a file, with the cosignatures that are not too old.
+fn late_note(rt: &HostRuntime, from: &Source, path: &str) -> Result<Vec<u8>, Stop> {
+    let note = note_bytes(rt, path)?;
+    match from.since {
+        Some(since) => Ok(lately_signed(
+            rt.alloc(),
+            &note,
+            from.policy.witnesses,
+            since,
+        )?),
+        None => Ok(note),
+    }
+}
+
 /// Puts the signatures that the notes of files have by the witnesses of a policy to the checkpoint of a folder, and returns what this
 /// states. The files are the words from a place on. Where one of them is a note of another checkpoint, or has no such signature,
 /// nothing is written.
@@ -85,7 +100,7 @@ pub fn cosign_in_folder(
     let mut note = placed(place, note_bytes(rt, path.as_str()))?;
     for file in files..words.len() {
         let name = name_of_word(words, Word { place: file })?;
-        let other = placed(file, note_bytes(rt, name.text))?;
+        let other = placed(file, late_note(rt, from, name.text))?;
         let more = with_cosignatures(rt.alloc(), &note, &other, from.policy.witnesses);
         note = placed(file, more)?;
     }

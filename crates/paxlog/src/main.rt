@@ -1,6 +1,7 @@
 //! The command `paxlog`: a transparency log in a file.
 #![tactic(auto)]
 
+mod aging;
 mod appending;
 mod batches;
 mod checkpoints;

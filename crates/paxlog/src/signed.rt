@@ -1,19 +1,20 @@
 //! Commands about checkpoints, whose words say who has to sign them.
 
+use crate::aging::receipt_lately_signed;
 use crate::appending::bytes_of_file;
 use crate::cosigning::cosign_in_folder;
 use crate::followers::Source;
 use crate::needing::{needed_to_follow, needed_to_prove};
 use crate::replying::{replied, request_bytes};
 use crate::saying::{say, say_audited, say_checkpoint, say_head, say_receipt, say_verdict};
-use crate::signers::{policy_text, signers_of};
+use crate::signers::{By, policy_text, signers_of};
 use crate::stop::{StopAt, placed};
 use crate::words::{folder_name, name_of_word, origin_of};
 use crate::{checkpoints, followers};
-use log_checkpoints::{verify_receipt, write_receipt};
+use log_checkpoints::{ReceiptFault, verify_receipt, write_receipt};
 use paxlog_run::replies::line_of;
-use paxlog_run::request::{Entries, Keyed, Needed, Signers, Site, Word};
-use signed_notes::Policy;
+use paxlog_run::request::{Entries, Keyed, Misuse, Needed, Signers, Site, Word};
+use std::alloc::Global;
 
 /// What the checkpoint of a file states, where it is signed as is asked for.
 pub fn verify_checkpoint(
@@ -25,13 +26,28 @@ pub fn verify_checkpoint(
 ) -> Result<u8, StopAt> {
     let origin = origin_of(words, origin)?;
     let text = policy_text(rt, words, signers)?;
-    let by = signers_of(rt.alloc(), words, signers, &text)?;
+    let by = signers_of(rt, words, signers, &text)?;
     let note = bytes_of_file(rt, words, file)?;
-    let origin = origin.unwrap_or(by.log.name);
+    let origin = origin.unwrap_or(by.file.log.name);
     say_checkpoint(
         rt,
-        checkpoints::opened(rt.alloc(), &by.policy(), &note, origin),
+        checkpoints::opened(rt.alloc(), &by.policy(), by.since, &note, origin),
     )
+}
+
+// What a receipt shows of an entry.
+fn shown_by(
+    alloc: Global,
+    receipt: &[u8],
+    entry: &[u8],
+    origin: &str,
+    by: &By,
+) -> Result<Option<(usize, [u8; 32])>, ReceiptFault> {
+    let Some(since) = by.since else {
+        return verify_receipt(alloc, receipt, entry, origin, &by.policy());
+    };
+    let late = receipt_lately_signed(alloc, receipt, &by.file.witnesses, since)?;
+    verify_receipt(alloc, &late, entry, origin, &by.policy())
 }
 
 /// What a receipt shows of an entry, where its checkpoint is signed as is asked for.
@@ -44,27 +60,22 @@ pub fn verify_receipt_command(
 ) -> Result<u8, StopAt> {
     let origin = origin_of(words, by.1)?;
     let text = policy_text(rt, words, by.0)?;
-    let by = signers_of(rt.alloc(), words, by.0, &text)?;
+    let by = signers_of(rt, words, by.0, &text)?;
     let entry = bytes_of_file(rt, words, file)?;
     let receipt = bytes_of_file(rt, words, receipt)?;
-    let origin = origin.unwrap_or(by.log.name);
-    say_receipt(
-        rt,
-        verify_receipt(rt.alloc(), &receipt, &entry, origin, &by.policy()),
-    )
+    let origin = origin.unwrap_or(by.file.log.name);
+    say_receipt(rt, shown_by(rt.alloc(), &receipt, &entry, origin, &by))
 }
 
 // The folder of tiles that words name, who has to sign, and the origin.
-fn source_of<'a>(
-    words: &'a [Vec<u8>],
-    site: &Site,
-    policy: Policy<'a>,
-) -> Result<Source<'a>, StopAt> {
+fn source_of<'a>(words: &'a [Vec<u8>], site: &Site, by: &'a By<'a>) -> Result<Source<'a>, StopAt> {
     let origin = origin_of(words, site.origin)?;
     let folder = folder_name(words, site.folder)?;
+    let policy = by.policy();
     Ok(Source {
         folder,
         policy,
+        since: by.since,
         origin: origin.unwrap_or(policy.log.name),
     })
 }
@@ -72,8 +83,8 @@ fn source_of<'a>(
 /// Whether the tiles of a folder are those of its checkpoint.
 pub fn audit_command(rt: &HostRuntime, words: &[Vec<u8>], site: &Site) -> Result<u8, StopAt> {
     let text = policy_text(rt, words, site.signers)?;
-    let by = signers_of(rt.alloc(), words, site.signers, &text)?;
-    let from = source_of(words, site, by.policy())?;
+    let by = signers_of(rt, words, site.signers, &text)?;
+    let from = source_of(words, site, &by)?;
     match placed(from.folder.place, followers::audit_folder(rt, &from))? {
         Some(found) => say_audited(rt, &found),
         None => say_verdict(rt, false),
@@ -89,8 +100,8 @@ pub fn keep_command(
     first: Option<usize>,
 ) -> Result<u8, StopAt> {
     let text = policy_text(rt, words, site.signers)?;
-    let by = signers_of(rt.alloc(), words, site.signers, &text)?;
-    let from = source_of(words, site, by.policy())?;
+    let by = signers_of(rt, words, site.signers, &text)?;
+    let from = source_of(words, site, &by)?;
     say_head(
         rt,
         &followers::keep_in_folder(rt, &from, words, entries, first)?,
@@ -105,8 +116,8 @@ pub fn cosign_command(
     files: usize,
 ) -> Result<u8, StopAt> {
     let text = policy_text(rt, words, site.signers)?;
-    let by = signers_of(rt.alloc(), words, site.signers, &text)?;
-    let from = source_of(words, site, by.policy())?;
+    let by = signers_of(rt, words, site.signers, &text)?;
+    let from = source_of(words, site, &by)?;
     say_head(rt, &cosign_in_folder(rt, &from, words, files)?)
 }
 
@@ -118,8 +129,8 @@ pub fn needs(
     needed: Needed,
 ) -> Result<u8, StopAt> {
     let text = policy_text(rt, words, site.signers)?;
-    let by = signers_of(rt.alloc(), words, site.signers, &text)?;
-    let from = source_of(words, site, by.policy())?;
+    let by = signers_of(rt, words, site.signers, &text)?;
+    let from = source_of(words, site, &by)?;
     let names = match needed {
         Needed::State(state) => needed_to_follow(rt, &from, folder_name(words, state)?)?,
         Needed::Entry(index) => placed(from.folder.place, needed_to_prove(rt, &from, index))?,
@@ -130,8 +141,8 @@ pub fn needs(
 /// Moves a follower's state on.
 pub fn follow(rt: &HostRuntime, words: &[Vec<u8>], site: &Site, state: Word) -> Result<u8, StopAt> {
     let text = policy_text(rt, words, site.signers)?;
-    let by = signers_of(rt.alloc(), words, site.signers, &text)?;
-    let from = source_of(words, site, by.policy())?;
+    let by = signers_of(rt, words, site.signers, &text)?;
+    let from = source_of(words, site, &by)?;
     let state = folder_name(words, state)?;
     say_head(rt, &followers::follow(rt, &from, state)?)
 }
@@ -145,8 +156,8 @@ pub fn witness(
     key_file: Word,
 ) -> Result<u8, StopAt> {
     let text = policy_text(rt, words, site.signers)?;
-    let by = signers_of(rt.alloc(), words, site.signers, &text)?;
-    let from = source_of(words, site, by.policy())?;
+    let by = signers_of(rt, words, site.signers, &text)?;
+    let from = source_of(words, site, &by)?;
     let state = folder_name(words, state)?;
     let key_file = name_of_word(words, key_file)?;
     say(rt, &followers::witness(rt, &from, state, key_file)?)
@@ -161,8 +172,8 @@ pub fn tile_proof(
     is_receipt: bool,
 ) -> Result<u8, StopAt> {
     let text = policy_text(rt, words, site.signers)?;
-    let by = signers_of(rt.alloc(), words, site.signers, &text)?;
-    let from = source_of(words, site, by.policy())?;
+    let by = signers_of(rt, words, site.signers, &text)?;
+    let from = source_of(words, site, &by)?;
     let proof = placed(
         from.folder.place,
         followers::prove_in_folder(rt, &from, index),
@@ -185,11 +196,14 @@ pub fn witness_reply(
 ) -> Result<u8, StopAt> {
     let origin = origin_of(words, keyed.origin)?;
     let text = policy_text(rt, words, signers)?;
-    let by = signers_of(rt.alloc(), words, signers, &text)?;
+    let by = signers_of(rt, words, signers, &text)?;
+    if by.since.is_some() {
+        return Err(StopAt::from(Misuse::TooMany));
+    }
     let state = folder_name(words, state)?;
     let key_file = name_of_word(words, keyed.key_file)?;
     let request = request_bytes(rt)?;
-    let origin = origin.unwrap_or(by.log.name);
+    let origin = origin.unwrap_or(by.file.log.name);
     say(
         rt,
         &replied(rt, &request, by.policy(), origin, state, key_file)?,

@@ -1,11 +1,12 @@
 //! Who has to sign a checkpoint: the log whose key a word says, or who the policy of a file names.
 
 use crate::checkpoints::verifier;
+use crate::followers::seconds_now;
 use crate::reading::note_bytes;
 use crate::stop::{Stop, StopAt, placed};
 use crate::words::name_of_word;
-use paxlog_run::request::Signers;
-use signed_notes::{PolicyFault, PolicyFile, read_policy};
+use paxlog_run::request::{Signers, Word, number_word_at};
+use signed_notes::{Policy, PolicyFault, PolicyFile, read_policy};
 use std::alloc::Global;
 
 /// Returns the bytes of the policy file that is named; none where a key is.
@@ -14,32 +15,70 @@ pub fn policy_text(
     words: &[Vec<u8>],
     signers: Signers,
 ) -> Result<Vec<u8>, StopAt> {
-    match signers {
-        Signers::Key(_) => Ok(Vec::new(rt.alloc())),
-        Signers::Policy(file) => {
-            let name = name_of_word(words, file)?;
-            placed(name.place, note_bytes(rt, name.text))
-        }
+    let file = match signers {
+        Signers::Key(_) => return Ok(Vec::new(rt.alloc())),
+        Signers::Policy(file) => file,
+        Signers::Lately { policy, seconds: _ } => policy,
+    };
+    let name = name_of_word(words, file)?;
+    placed(name.place, note_bytes(rt, name.text))
+}
+
+/// Who has to sign, and the time, in seconds since 1970, before which what a witness signed counts for nothing.
+#[derive(Drop)]
+pub struct By<'a> {
+    pub file: PolicyFile<'a>,
+    pub since: Option<u64>,
+}
+
+impl<'a> By<'a> {
+    /// Returns the policy.
+    pub fn policy(&self) -> Policy<'_> {
+        self.file.policy()
+    }
+}
+
+// The policy that the text of a file says.
+fn policy_in<'a>(alloc: Global, file: Word, text: &'a [u8]) -> Result<PolicyFile<'a>, StopAt> {
+    match read_policy(alloc, text) {
+        Ok(read) => Ok(read),
+        Err(fault) => Err(Stop::from(fault).at(file.place)),
+    }
+}
+
+// The time so many seconds ago.
+fn seconds_ago(rt: &HostRuntime, words: &[Vec<u8>], seconds: Word) -> Result<u64, StopAt> {
+    match number_word_at(words, seconds.place) {
+        Ok(count) => Ok(seconds_now(rt)?.saturating_sub(count as u64)),
+        Err(misuse) => Err(StopAt::from(misuse)),
     }
 }
 
 /// Returns who has to sign: the log of the key that a word says, or who the text of a policy file says.
 pub fn signers_of<'a>(
-    alloc: Global,
+    rt: &HostRuntime,
     words: &'a [Vec<u8>],
     signers: Signers,
     text: &'a [u8],
-) -> Result<PolicyFile<'a>, StopAt> {
+) -> Result<By<'a>, StopAt> {
+    let alloc = rt.alloc();
     match signers {
-        Signers::Key(key) => Ok(PolicyFile {
-            log: verifier(alloc, words, key)?,
-            witnesses: Vec::new(alloc),
-            quorum: 0,
+        Signers::Key(key) => Ok(By {
+            file: PolicyFile {
+                log: verifier(alloc, words, key)?,
+                witnesses: Vec::new(alloc),
+                quorum: 0,
+            },
+            since: None,
         }),
-        Signers::Policy(file) => match read_policy(alloc, text) {
-            Ok(read) => Ok(read),
-            Err(fault) => Err(Stop::from(fault).at(file.place)),
-        },
+        Signers::Policy(file) => Ok(By {
+            file: policy_in(alloc, file, text)?,
+            since: None,
+        }),
+        Signers::Lately { policy, seconds } => Ok(By {
+            file: policy_in(alloc, policy, text)?,
+            since: Some(seconds_ago(rt, words, seconds)?),
+        }),
     }
 }
 

@@ -14,7 +14,7 @@ use Rattle.paxlog_run.specs.declared.request.Keyed.{Keyed}
 use Rattle.paxlog_run.specs.declared.request.Publication.{Publication}
 use Rattle.paxlog_run.specs.declared.request.waits.Waiting.{Waiting}
 use Rattle.paxlog_run.specs.declared.request.Signers.{Signers}
-use Rattle.paxlog_run.specs.declared.request.Signers.TheVariants.{Key, Policy}
+use Rattle.paxlog_run.specs.declared.request.Signers.TheVariants.{Key, Lately, Policy}
 use Rattle.paxlog_run.specs.declared.request.parts.SignersAt.{SignersAt}
 use Rattle.paxlog_run.specs.declared.request.Site.{Site}
 use Rattle.paxlog_run.specs.declared.request.Entries.TheVariants.{Lines, Bundles, Files}
@@ -87,12 +87,15 @@ site_by signers origin = record { folder = typed_at 1; signers = signers; origin
 abbrev pub site_at : Option Word → Site
 site_at origin = site_by (Key (typed_at 2)) origin
 
--- who has to sign, by the words at a place, and the place behind them: --policy FILE, or KEY
+-- who has to sign, by the words at a place, and the place behind them: KEY, --policy FILE, or
+-- --policy FILE --not-older-than SECONDS
 abbrev pub signers_at : List (List ℕ) → ℕ → SignersAt
 signers_at words place =
-    if bytes_eq (get_or words place []) (codes "--policy")
-    then record { signers = Policy (typed_at (place + 1)); next = place + 2 }
-    else record { signers = Key (typed_at place); next = place + 1 }
+    if not (bytes_eq (get_or words place []) (codes "--policy"))
+    then record { signers = Key (typed_at place); next = place + 1 }
+    else if bytes_eq (get_or words (place + 2) []) (codes "--not-older-than")
+    then record { signers = Lately (typed_at (place + 1)) (typed_at (place + 3)); next = place + 4 }
+    else record { signers = Policy (typed_at (place + 1)); next = place + 2 }
 
 -- root LOG [SIZE]; the command's name of it stands at place 0
 abbrev pub root_request : List (List ℕ) → Read Request

@@ -11,6 +11,7 @@ mod unsigned;
 mod waits;
 
 use crate::request::appends::{append_lines_request, append_request};
+pub use crate::request::parts::number_word_at;
 use crate::request::unsigned::{asked_of_checks, prove_request, root_request, show_request};
 pub use crate::request::waits::{Waiting, waiting_in};
 
@@ -83,6 +84,8 @@ pub enum Signers {
     Key(Word),
     /// Who the policy file says.
     Policy(Word),
+    /// Who the policy file says, its witnesses within so many seconds.
+    Lately { policy: Word, seconds: Word },
 }
 
 /// The folder of a log's tiles, who has to sign its checkpoint, and the origin, where one is named.

@@ -87,21 +87,29 @@ pub struct SignersAt {
     pub next: usize,
 }
 
-/// Returns who has to sign, by the words at a place: `--policy FILE`, or KEY.
+/// Returns who has to sign, by the words at a place: `--policy FILE [--not-older-than SECONDS]`, or KEY.
 pub fn signers_at(words: &[Vec<u8>], place: usize) -> SignersAt
     requires { place ≤ 2 }
     ensures signers { result ≡ signers_at (map vec_items words.now) place }
-    ensures near { result.next ≤ place + 2 }
+    ensures near { result.next ≤ place + 4 }
 {
-    if bytes_at(words, place) == b"--policy".as_slice() {
-        SignersAt {
-            signers: Signers::Policy(typed_at(place + 1)),
-            next: place + 2,
-        }
-    } else {
+    if bytes_at(words, place) != b"--policy".as_slice() {
         SignersAt {
             signers: Signers::Key(typed_at(place)),
             next: place + 1,
+        }
+    } else if bytes_at(words, place + 2) == b"--not-older-than".as_slice() {
+        SignersAt {
+            signers: Signers::Lately {
+                policy: typed_at(place + 1),
+                seconds: typed_at(place + 3),
+            },
+            next: place + 4,
+        }
+    } else {
+        SignersAt {
+            signers: Signers::Policy(typed_at(place + 1)),
+            next: place + 2,
         }
     }
 }
@@ -126,7 +134,7 @@ pub fn site_at(origin: Option<Word>) -> Site
 
 /// Returns the words behind the options at a place: one for a key, and behind it one for an origin, where there is one.
 pub fn keyed_at(words: &[Vec<u8>], place: usize) -> Result<Keyed, Misuse>
-    requires { place ≤ 5 }
+    requires { place ≤ 8 }
     ensures { result ≡ keyed_at (map vec_items words.now) place }
 {
     counted(words, place + 2, place + 4)?;
