@@ -1,5 +1,5 @@
 -- What ready parameters are: one element of capacity, and eight full rounds.
-use Rattle.std.specs.Prelude.{◌≡◌, ℕ, ◌-◌, ◌==◌, if◌then◌else◌, List, [], ◌∷◌, get_or}
+use Rattle.std.specs.Prelude.{◌≡◌, ℕ, ◌-◌, ◌==◌, if◌then◌else◌, [], ◌∷◌, get_or}
 use Rattle.ark_sponge.specs.Permutation.{Parameters}
 
 -- parameters of a rate, a capacity of one element, eight full rounds, so many partial ones, and an exponent

@@ -1,5 +1,5 @@
 -- The laws of a field of one's own, which wraps the numbers below a modulus.
-use Rattle.std.proofs.Common.{◌≡◌, ◌==◌, ap, refl}
+use Rattle.std.proofs.Common.{◌≡◌, ◌==◌, refl}
 use Rattle.std.proofs.lemmas.Bool.Decides.{Decides-eqb}
 use Rattle.std.specs.Bool.{Decides}
 use Rattle.ark_base.specs.Digits.{below_at, bytes_for}

@@ -1,5 +1,5 @@
 -- A step that does nothing.
-use Rattle.std.proofs.Common.{◌≡◌, ℕ, false, inl, refl}
+use Rattle.std.proofs.Common.{ℕ, false, inl, refl}
 use Rattle.log_tiles.specs.Followers.{IsMove}
 use Rattle.log_tiles.specs.declared.following.Head.{Head}
 

@@ -1,5 +1,5 @@
 -- The digest of a fork of which both sides' digests are known.
-use Rattle.std.proofs.Common.{◌≡◌, Option, Ok, sym, ◌∙◌, subst}
+use Rattle.std.proofs.Common.{◌≡◌, Option, Ok, sym, subst}
 use Rattle.ark_base.specs.Outcome.{◌>>=◌, Outcome}
 use Rattle.merkle_map.specs.Kept.{IsFor}
 use Rattle.merkle_map.specs.Map.{Digest, MapHashes}

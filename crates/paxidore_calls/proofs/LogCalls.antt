@@ -21,7 +21,7 @@ use Rattle.paxidore_calls.proofs.KeptLogs.{Entries}
 use Rattle.paxidore_calls.specs.Answer.{Hands, leaves_in, refusal_code}
 use Rattle.paxidore_calls.specs.Cut.{parts_by}
 use Rattle.paxidore_calls.specs.Layouts.{grown_size, is_first_lost, log_in, IsFirstLost}
-use Rattle.paxidore_calls.specs.LogFiles.{AsksFirst, IsOfCaller, IsReason, StandsInFront, TellsWhy, call_code, not_done_at, not_done_code, not_done_for, not_done_of}
+use Rattle.paxidore_calls.specs.LogFiles.{AsksFirst, IsReason, StandsInFront, TellsWhy, call_code, not_done_at, not_done_code, not_done_for, not_done_of}
 use Rattle.paxidore_calls.specs.Plan.{Carries, HasRead, IsHanded, LeavesSteps, carried}
 use Rattle.paxidore_calls.specs.declared.file_calls.not_done.NotDone.{NotDone}
 use Rattle.paxidore_calls.specs.declared.file_calls.not_done.NotDone.TheVariants.{HeadDamaged, Refusal}

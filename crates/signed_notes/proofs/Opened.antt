@@ -1,8 +1,8 @@
 -- A note that is opened states one checkpoint, and no fault closes it.
-use Rattle.std.proofs.Common.{◌≡◌, ◌≤◌, ◌<◌, ℕ, List, Ok, Err, Result, true, false, inl, inr, ap, sym, subst, ◌∙◌, arith}
+use Rattle.std.proofs.Common.{◌≡◌, ℕ, List, Ok, Err, Result, inl, inr, ap, sym, subst, ◌∙◌, arith}
 use Rattle.signed_notes.specs.Checkpoints.{CheckpointParts}
 use Rattle.signed_notes.specs.Notes.{NoteParts}
-use Rattle.signed_notes.specs.Opening.{checkpoint_by, IsClosed, IsFalse, IsOpened, IsUnwitnessed, IsWitnessed, Policy}
+use Rattle.signed_notes.specs.Opening.{checkpoint_by, IsClosed, IsOpened, IsUnwitnessed, IsWitnessed, Policy}
 use Rattle.signed_notes.specs.Reading.{read_note}
 use Rattle.signed_notes.specs.declared.fault.Fault.{Fault}
 use Rattle.signed_notes.specs.declared.fault.Fault.TheVariants.{Memory}

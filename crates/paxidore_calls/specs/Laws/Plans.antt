@@ -1,5 +1,5 @@
 -- What may stand in a file where more of its steps are synced may stand there where fewer are.
-use Rattle.std.proofs.Common.{zero, suc, ◌≡◌, ℕ, ◌≤◌, List, [], ◌∷◌, take, drop, inr, arith}
+use Rattle.std.proofs.Common.{zero, suc, ℕ, ◌≤◌, List, [], ◌∷◌, take, drop, inr, arith}
 use Rattle.log_file.specs.LogFile.{written}
 use Rattle.paxidore_calls.specs.Plan.{IsStopped, carried}
 use Rattle.paxidore_calls.specs.declared.file_calls.replay.Step.{Step}

@@ -3,9 +3,7 @@ use Rattle.ark_base.specs.Outcome.{Outcome}
 use Rattle.ark_base.specs.declared.error.Error.TheVariants.{OutOfMemory, SerializationError}
 use Rattle.ark_base.specs.declared.error.SerializationError.TheVariants.{InvalidData}
 use Rattle.ark_paths.specs.Pair.{Digest}
-use Rattle.circom_bytes.specs.Hash.{node_outcome}
-use Rattle.merkle_log.specs.Edge.{all_of}
-use Rattle.merkle_log.specs.Log.{NodeHash, inclusion_path}
+use Rattle.merkle_log.specs.Log.{NodeHash}
 use Rattle.merkle_log.specs.Stored.{IsStored, row_at}
 use Rattle.merkle_log.proofs.KeptRows.{fewer-first-by, fewer-hashed-by}
 use Rattle.merkle_log.proofs.Making.{map-itself}

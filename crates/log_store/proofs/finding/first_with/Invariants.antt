@@ -1,4 +1,4 @@
-use Rattle.std.proofs.Common.{◌≢◌, ◌≤◌, ◌<◌, ◌+◌, ◌-◌, ℕ, length}
+use Rattle.std.proofs.Common.{◌≢◌, ◌≤◌, ◌<◌, ◌-◌, ℕ, length}
 use Rattle.log_file.specs.LogFile.{file_end}
 use Rattle.log_store.specs.Sound.{placed, IsAhead}
 use Rattle.log_store.proofs.finding.first_with.Given as goal

@@ -1,4 +1,4 @@
-use Rattle.std.proofs.Common.{All, List, if◌then◌else◌, get_or, map, take, inl, inr, ap, sym, ◌∙◌, add-one}
+use Rattle.std.proofs.Common.{All, List, if◌then◌else◌, get_or, inl, inr, ap, sym, ◌∙◌, add-one}
 use Rattle.std.proofs.lemmas.List.{get_or_default}
 use Rattle.signed_notes.specs.Counting.{key_added}
 use Rattle.signed_notes.specs.Keys.{KeyParts}

@@ -1,4 +1,4 @@
-use Rattle.std.proofs.Common.{◌≡◌, subst, sym}
+use Rattle.std.proofs.Common.{subst, sym}
 use Rattle.merkle_map.specs.Kept.{IsFor, IsKept}
 use Rattle.merkle_map.specs.Parts.{shape}
 use Rattle.merkle_map.specs.Tree.{Fork, shape_digest}
