@@ -30,7 +30,7 @@ fn add_tile_of(tiles: &mut Vec<Tile>, size: usize, level: usize, place: usize) -
     let index = place.saturating_mul(1usize << (level % 8)) / FULL;
     let level = level / 8;
     let width = width_of(size, level, index);
-    if width != 0 && !have(tiles, level, index) {
+    if width != 0 && !have(&*tiles, level, index) {
         tiles.push(Tile {
             level,
             index,
