@@ -26,8 +26,8 @@ levels-preserved c =
     let other = c.halve.new.into in
     let first = one-row j below other (one-shifted j (omega (arith, c.levels.invariant.low, c.requires)))
     c.halve.ensures in
-    let second = one-row k other c.halve-2.new.into (one-shifted k (omega (arith, c.levels.invariant.low, c.requires)))
-    c.halve-2.ensures in
+    let second = one-row k other c.halve-in-levels.new.into (one-shifted k (omega (arith, c.levels.invariant.low, c.requires)))
+    c.halve-in-levels.ensures in
     record {
       low = omega (arith, c.levels.invariant.low);
       same = second ∙ ap (λ n. rows_over (take (2 ^ n) other) n) next ∙ first
