@@ -75,12 +75,7 @@ fn with_cosignatures(
 fn late_note(rt: &HostRuntime, from: &Source, path: &str) -> Result<Vec<u8>, Stop> {
     let note = note_bytes(rt, path)?;
     match from.since {
-        Some(since) => Ok(lately_signed(
-            rt.alloc(),
-            &note,
-            from.policy.witnesses,
-            since,
-        )?),
+        Some(since) => Ok(lately_signed(rt.alloc(), &note, from.policy.witnesses, since)?),
         None => Ok(note),
     }
 }

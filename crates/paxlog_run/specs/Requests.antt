@@ -499,8 +499,8 @@ request_of_words words = if nat_lt 0 (length words) then asked_of_logs (get_or w
 abbrev pub waits_at_end : List ℕ → Bool
 waits_at_end word =
     bytes_eq word (codes "checkpoint") || bytes_eq word (codes "tiles") || bytes_eq word (codes "cosign")
-    || bytes_eq word (codes "recover") || bytes_eq word (codes "keep") || bytes_eq word (codes "keep-bundles") || bytes_eq word (codes "keep-files")
-    || bytes_eq word (codes "follow") || bytes_eq word (codes "witness")
+    || bytes_eq word (codes "recover") || bytes_eq word (codes "keep") || bytes_eq word (codes "keep-bundles")
+    || bytes_eq word (codes "keep-files") || bytes_eq word (codes "follow") || bytes_eq word (codes "witness")
 
 -- how many words stand before --wait SECONDS at their end, and the seconds: all and 0 where it does not stand there
 abbrev pub waiting_in : List (List ℕ) → Read Waiting
