@@ -43,7 +43,7 @@ pub use Rattle.ark_sponge.specs.Sponge.{with_absorbed}
 pub use Rattle.ark_sponge.specs.Squeezing.{cut_squeezed, native_squeezed}
 pub use Rattle.ark_poseidon_parameters.specs.Ready.{AreReady, bls12_381_fr_alpha, bls12_381_fr_rounds, bn254_fr_rounds}
 pub use Rattle.poseidon_grain.specs.Grain.{below_drawn, list_drawn, remainder_drawn, seeded}
-pub use Rattle.poseidon_grain.specs.Constants.{AreGenerated, AreParameters, Asked, IsCauchy, IsMatrixRefused, asked_of}
+pub use Rattle.poseidon_grain.specs.Constants.{AreGenerated, AreParameters, Instance, IsCauchy, IsMatrixRefused, instance_of}
 pub use Rattle.poseidon_grain.specs.Constants.{constants_drawn, counts_fit, xs_drawn, ys_drawn}
 pub use Rattle.poseidon_grain.specs.Defaults.{Counts, baby_bear_rounds, bls12_381_fr_counts, circom_rounds}
 -- hashes
