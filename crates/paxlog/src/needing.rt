@@ -100,7 +100,10 @@ fn missing_names(rt: &HostRuntime, folder: &str, tiles: &[Tile]) -> Result<Vec<u
 pub fn needed_to_follow(rt: &HostRuntime, from: &Source, state: Name) -> Result<Vec<u8>, StopAt> {
     let folder = from.folder;
     let Published { note: _, head } = placed(folder.place, read_checkpoint(rt, from))?;
-    let size = placed(folder.place, sized(&head))?;
+    let size = match sized(&head) {
+        Ok(size) => size,
+        Err(why) => return Err(why.at(folder.place)),
+    };
     let old = stated_by_note(rt, &from.policy, state.text, from.origin);
     let old = placed(state.place, old)?.size;
     let mut tiles = Vec::new(rt.alloc());

@@ -14,6 +14,7 @@ use crate::{checkpoints, followers};
 use log_checkpoints::{ReceiptFault, verify_receipt, write_receipt};
 use paxlog_run::replies::line_of;
 use paxlog_run::request::{Entries, Keyed, Misuse, Needed, Signers, Site, Word};
+use signed_notes::Policy;
 use std::alloc::Global;
 
 /// What the checkpoint of a file states, where it is signed as is asked for.
@@ -68,14 +69,18 @@ pub fn verify_receipt_command(
 }
 
 // The folder of tiles that words name, who has to sign, and the origin.
-fn source_of<'a>(words: &'a [Vec<u8>], site: &Site, by: &'a By<'a>) -> Result<Source<'a>, StopAt> {
+fn source_of<'a>(
+    words: &'a [Vec<u8>],
+    site: &Site,
+    policy: Policy<'a>,
+    since: Option<u64>,
+) -> Result<Source<'a>, StopAt> {
     let origin = origin_of(words, site.origin)?;
     let folder = folder_name(words, site.folder)?;
-    let policy = by.policy();
     Ok(Source {
         folder,
         policy,
-        since: by.since,
+        since,
         origin: origin.unwrap_or(policy.log.name),
     })
 }
@@ -84,7 +89,7 @@ fn source_of<'a>(words: &'a [Vec<u8>], site: &Site, by: &'a By<'a>) -> Result<So
 pub fn audit_command(rt: &HostRuntime, words: &[Vec<u8>], site: &Site) -> Result<u8, StopAt> {
     let text = policy_text(rt, words, site.signers)?;
     let by = signers_of(rt, words, site.signers, &text)?;
-    let from = source_of(words, site, &by)?;
+    let from = source_of(words, site, by.policy(), by.since)?;
     match placed(from.folder.place, followers::audit_folder(rt, &from))? {
         Some(found) => say_audited(rt, &found),
         None => say_verdict(rt, false),
@@ -101,7 +106,7 @@ pub fn keep_command(
 ) -> Result<u8, StopAt> {
     let text = policy_text(rt, words, site.signers)?;
     let by = signers_of(rt, words, site.signers, &text)?;
-    let from = source_of(words, site, &by)?;
+    let from = source_of(words, site, by.policy(), by.since)?;
     say_head(
         rt,
         &followers::keep_in_folder(rt, &from, words, entries, first)?,
@@ -117,7 +122,7 @@ pub fn cosign_command(
 ) -> Result<u8, StopAt> {
     let text = policy_text(rt, words, site.signers)?;
     let by = signers_of(rt, words, site.signers, &text)?;
-    let from = source_of(words, site, &by)?;
+    let from = source_of(words, site, by.policy(), by.since)?;
     say_head(rt, &cosign_in_folder(rt, &from, words, files)?)
 }
 
@@ -130,7 +135,7 @@ pub fn needs(
 ) -> Result<u8, StopAt> {
     let text = policy_text(rt, words, site.signers)?;
     let by = signers_of(rt, words, site.signers, &text)?;
-    let from = source_of(words, site, &by)?;
+    let from = source_of(words, site, by.policy(), by.since)?;
     let names = match needed {
         Needed::State(state) => needed_to_follow(rt, &from, folder_name(words, state)?)?,
         Needed::Entry(index) => placed(from.folder.place, needed_to_prove(rt, &from, index))?,
@@ -142,7 +147,7 @@ pub fn needs(
 pub fn follow(rt: &HostRuntime, words: &[Vec<u8>], site: &Site, state: Word) -> Result<u8, StopAt> {
     let text = policy_text(rt, words, site.signers)?;
     let by = signers_of(rt, words, site.signers, &text)?;
-    let from = source_of(words, site, &by)?;
+    let from = source_of(words, site, by.policy(), by.since)?;
     let state = folder_name(words, state)?;
     say_head(rt, &followers::follow(rt, &from, state)?)
 }
@@ -157,7 +162,7 @@ pub fn witness(
 ) -> Result<u8, StopAt> {
     let text = policy_text(rt, words, site.signers)?;
     let by = signers_of(rt, words, site.signers, &text)?;
-    let from = source_of(words, site, &by)?;
+    let from = source_of(words, site, by.policy(), by.since)?;
     let state = folder_name(words, state)?;
     let key_file = name_of_word(words, key_file)?;
     say(rt, &followers::witness(rt, &from, state, key_file)?)
@@ -173,7 +178,7 @@ pub fn tile_proof(
 ) -> Result<u8, StopAt> {
     let text = policy_text(rt, words, site.signers)?;
     let by = signers_of(rt, words, site.signers, &text)?;
-    let from = source_of(words, site, &by)?;
+    let from = source_of(words, site, by.policy(), by.since)?;
     let proof = placed(
         from.folder.place,
         followers::prove_in_folder(rt, &from, index),
