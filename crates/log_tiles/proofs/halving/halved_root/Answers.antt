@@ -26,7 +26,8 @@ levels-preserved c =
     let other = c.halve.new.into in
     let first = one-row j below other (one-shifted j (omega (arith, c.levels.invariant.low, c.requires)))
     c.halve.ensures in
-    let second = one-row k other c.halve-in-levels.new.into (one-shifted k (omega (arith, c.levels.invariant.low, c.requires)))
+    let second = one-row k other c.halve-in-levels.new.into
+    (one-shifted k (omega (arith, c.levels.invariant.low, c.requires)))
     c.halve-in-levels.ensures in
     record {
       low = omega (arith, c.levels.invariant.low);
