@@ -16,7 +16,7 @@ use Rattle.ark_paths.specs.Asked.{CountsOwn, most_asked}
 use Rattle.acp_session.specs.declared.replies.Finding.{Finding}
 use Rattle.acp_session.specs.declared.replies.Finding.TheVariants.{Counted}
 use Rattle.acp_session.specs.Replies.{Refused, finding_reply, pairs_of, text, verdict_with}
-use Rattle.acp_session.specs.Steps.{MayHash, MayCount, TellsCount, about, alone_of, held_by_multi}
+use Rattle.acp_session.specs.Steps.{MayHash, MayCount, TellsCount, about, alone_of, found_by_multi}
 
 -- ---- leaves that are given in turn from a list
 
@@ -67,7 +67,7 @@ may_count view o x reading found is h k same digests r rooted leaves pairs hashe
 may_count-none : (h : HashPair) (digests : List Digest) (leaves : List (Outcome Digest))
     (reading : Reading MultiWay)
     (told : Bool → Finding) (pairs : ℕ) → pairs ≡ 0
-    → ((holds : Bool) → about (held_by_multi told h digests leaves) reading ≡ Ok (told holds) → ⊥)
+    → ((holds : Bool) → about (found_by_multi told h digests leaves) reading ≡ Ok (told holds) → ⊥)
     → MayCount h digests leaves reading pairs
 may_count-none h digests leaves reading told pairs none not_so = λ r rooted m alone. record {
   most = rw none (omega arith);
@@ -84,7 +84,7 @@ verdict_with-pairs false pairs holds = refl
 -- what a call found is told, or that memory lacks
 pub tells_count : (h : HashPair) (digests : List Digest) (reading : Reading MultiWay) (leaves : List (Outcome Digest))
     (result : Outcome Finding) (bytes : List ℕ)
-    → Answers (about (held_by_multi (λ holds. Counted holds (pairs_of result)) h digests leaves) reading) result
+    → Answers (about (found_by_multi (λ holds. Counted holds (pairs_of result)) h digests leaves) reading) result
     → (IsOk result → MayCount h digests leaves reading (pairs_of result))
     → bytes ≡ text (finding_reply result) → TellsCount h reading (Some digests) leaves bytes
 tells_count h digests reading leaves (Ok f) bytes answer may told =

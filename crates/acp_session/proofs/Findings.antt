@@ -10,7 +10,7 @@ use Rattle.ark_paths.specs.Root.{root}
 use Rattle.acp_session.specs.declared.replies.Finding.{Finding}
 use Rattle.acp_session.specs.declared.replies.Finding.TheVariants.{Trailing}
 use Rattle.acp_session.specs.Replies.{Refused, Tells, finding_reply, text}
-use Rattle.acp_session.specs.Steps.{alone, alone_of, about, held_by_multi}
+use Rattle.acp_session.specs.Steps.{alone, alone_of, about, found_by_multi}
 
 -- ---- proofs as bytes
 
@@ -38,11 +38,11 @@ module _ {X : Type 0} (view : X → MultiWay) (o : Option X) (x : X) (reading : 
   rooted-k = rw (← same) rooted
 
   pub multi-refused : (told : Bool → Finding) (e : Error) → multi_verdict k leaves (view x) r ≡ Err e
-      → about (held_by_multi told k digests leaves) reading ≡ Err e
+      → about (found_by_multi told k digests leaves) reading ≡ Err e
   multi-refused told e refused = rw (read, is, rooted-k, refused) refl
 
   pub multi-said : (told : Bool → Finding) (v : Bool) → multi_verdict k leaves (view x) r ≡ Ok v
-      → about (held_by_multi told k digests leaves) reading ≡ Ok (told v)
+      → about (found_by_multi told k digests leaves) reading ≡ Ok (told v)
   multi-said told v said = rw (read, is, rooted-k, said) refl
 
 -- what is said of a value that was read

@@ -142,8 +142,8 @@ about say reading = do
   said say w
 
 -- whether a path gives the tree's root for a leaf
-abbrev pub held_by : HashPair → List Digest → Outcome Digest → Way → Outcome Finding
-held_by h digests leaf way = do
+abbrev pub found_by : HashPair → List Digest → Outcome Digest → Way → Outcome Finding
+found_by h digests leaf way = do
   r ← root h digests
   holds ← verdict h leaf way r
   Ok (Verdict holds)
@@ -161,9 +161,9 @@ are_accepted h digests leaves proof = do
   multi_verdict h leaves proof r
 
 -- that verdict, as it is told
-abbrev pub held_by_multi : (Bool → Finding) → HashPair → List Digest → List (Outcome Digest) → MultiWay → Outcome
+abbrev pub found_by_multi : (Bool → Finding) → HashPair → List Digest → List (Outcome Digest) → MultiWay → Outcome
     Finding
-held_by_multi verdict h digests leaves proof = do
+found_by_multi verdict h digests leaves proof = do
   holds ← are_accepted h digests leaves proof
   Ok (verdict holds)
 
@@ -194,7 +194,7 @@ abbrev pub TellsCount : HashPair → Reading MultiWay → State → List (Outcom
 TellsCount h reading None leaves bytes = bytes ≡ text NoTree
 TellsCount h reading (Some digests) leaves bytes =
     ((pairs : ℕ) × MayCount h digests leaves reading pairs
-    × (bytes ≡ text (finding_reply (about (held_by_multi (λ holds. Counted holds pairs) h digests leaves) reading))))
+    × (bytes ≡ text (finding_reply (about (found_by_multi (λ holds. Counted holds pairs) h digests leaves) reading))))
     ⊎ (bytes ≡ text (Refused OutOfMemory))
 
 -- ---- lines
@@ -224,13 +224,13 @@ TakesTurn l before (ShowMultiProof indexes) =
     Takes before (in_tree before (λ digests.
     multi_reply (l.multi_path_bytes (own_multi_path l.pair_hashes indexes digests)) digests indexes))
 TakesTurn l before (CheckPath path leaf) =
-    Takes before (in_tree before (λ digests. finding_reply (about (held_by l.pair_hashes digests leaf)
+    Takes before (in_tree before (λ digests. finding_reply (about (found_by l.pair_hashes digests leaf)
     (l.path_reading path))))
 TakesTurn l before (BindPath path leaf) =
     Takes before (in_tree before (λ digests. finding_reply (about (bound_by l.pair_hashes digests leaf)
     (l.path_reading path))))
 TakesTurn l before (CheckMultiProof proof leaves) = Takes before (in_tree before (λ digests.
-    finding_reply (about (held_by_multi Verdict l.pair_hashes digests leaves) (l.multi_path_reading proof))))
+    finding_reply (about (found_by_multi Verdict l.pair_hashes digests leaves) (l.multi_path_reading proof))))
 TakesTurn l before (CountMultiProof proof leaves) = λ after bytes.
     TellsCount l.pair_hashes (l.multi_path_reading proof) before leaves bytes × (after ≡ before)
 TakesTurn l before (ReadStrictly proof) =

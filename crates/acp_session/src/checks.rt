@@ -4,7 +4,7 @@ ghost use Rattle.std.specs.Prelude.{◌≡◌, map, true, IsOk};
 ghost use Rattle.ark_base.specs.Outcome.{Answers};
 ghost use Rattle.ark_paths.specs.MultiPathStrict.{strict_reading};
 ghost use Rattle.acp_session.specs.Replies.{pairs_of, verdict_with};
-ghost use Rattle.acp_session.specs.Steps.{MayCount, about, bound_by, count_of, held_by, held_by_multi};
+ghost use Rattle.acp_session.specs.Steps.{MayCount, about, bound_by, count_of, found_by, found_by_multi};
 
 use crate::proofs::whole_proof;
 use crate::replies::Finding;
@@ -27,7 +27,7 @@ pub fn verdict<C: Shell>(
 ) -> Result<Finding, Error>
     requires { ⟦<C as Views>⟧.pair tree.now.pair_parameters ≡ ⟦<C as Views>⟧.pair
         pair_parameters.now }
-    ensures { Answers (about (held_by (⟦<C as Views>⟧.pair pair_parameters.now) tree.now.leaves
+    ensures { Answers (about (found_by (⟦<C as Views>⟧.pair pair_parameters.now) tree.now.leaves
         (C.LeafHash.meaning leaf_parameters.now leaf.now)) (⟦<C as Views>⟧.path_reading bytes.now))
         result }
 {
@@ -73,7 +73,7 @@ pub fn multi_verdict<C: Shell>(
 ) -> Result<Finding, Error>
     requires { ⟦<C as Views>⟧.pair tree.now.pair_parameters ≡ ⟦<C as Views>⟧.pair
         pair_parameters.now }
-    ensures answer { Answers (about (held_by_multi (verdict_with with_pairs (pairs_of result))
+    ensures answer { Answers (about (found_by_multi (verdict_with with_pairs (pairs_of result))
         (⟦<C as Views>⟧.pair pair_parameters.now) tree.now.leaves
         (map (C.LeafHash.meaning leaf_parameters.now) leaves.now))
         (⟦<C as Views>⟧.multi_path_reading bytes.now)) result }

@@ -7,7 +7,7 @@ use Rattle.ark_base.specs.Laws.Steps.{bind_ok, done_injective}
 use Rattle.ark_paths.specs.Pair.{Digest}
 use Rattle.ark_paths.specs.Root.{root, leaves_with_root}
 use Rattle.ark_paths.specs.Tree.{HashedTree}
-use Rattle.ark_paths.proofs.ListOutcomes.{begun, begun-more}
+use Rattle.ark_paths.proofs.ListOutcomes.{begun}
 use Rattle.ark_merkle.specs.Batch.{with_change, last_changes, hashed_changes, puts, with_leaves, with_each_leaf}
 use Rattle.ark_merkle.specs.Changed.{seen_changes, AreChanges}
 use Rattle.ark_merkle.specs.Update.{with_leaf}

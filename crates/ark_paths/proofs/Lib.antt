@@ -29,8 +29,8 @@ pub mod StrictIndexes
 pub mod StrictReadings
 pub mod StrictLaws
 pub mod MultiLists
-pub mod GroupClimbs
-pub mod GroupSteps
-pub mod GroupPaths
+pub mod NodeClimbs
+pub mod NodeSteps
+pub mod NodePaths
 pub mod RunLemmas
-pub mod GroupBeside
+pub mod NodeBeside

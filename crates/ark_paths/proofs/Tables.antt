@@ -16,7 +16,7 @@ use Rattle.ark_paths.specs.Table.{pair_seen, row_of, IsMade, AllMade, Extends, H
 use Rattle.ark_paths.specs.declared.multi_path.table.Entries.{Entries}
 use Rattle.ark_paths.specs.declared.multi_path.table.Entry.{Entry}
 use Rattle.ark_paths.specs.declared.multi_path.table.Pair.{Pair}
-use Rattle.ark_paths.specs.declared.multi_path.table.Slot.{Slot}
+use Rattle.ark_paths.specs.declared.multi_path.table.Placed.{Placed}
 
 -- past the last bit of an index there is one number
 pub number_above-none : (index level : ℕ) → index < 2 ^ 64 → 63 ≤ level → 0 ≡ index / 2 ^ suc level
@@ -117,19 +117,19 @@ slice_get-put_at (z ∷ xs) (suc i) (suc j) x y at = elim (slice_get-put_at xs i
   | inr (other, old) ↦ inr ((λ is. other (omega (arith, is))), old)
 ]
 
-pub AreKept-put : {X : Type 0} (all after : BTreeMap (ℕ × ℕ) (Entry X)) (last next : List (Slot X)) (slot : Slot X)
-    → AreKept all last → Updates place_cmp all after slot.place (Some slot.entry) → next
-    ≡ put_at last (slot.place.0 - 1) slot → AreKept after next
-AreKept-put all after last next slot kept updates is level other at =
-    elim (slice_get-put_at last (slot.place.0 - 1) level slot other (sym (ap (λ l. slice_get l level) is) ∙ at)) [
+pub AreKept-put : {X : Type 0} (all after : BTreeMap (ℕ × ℕ) (Entry X)) (last next : List (Placed X))
+    (placed : Placed X) → AreKept all last → Updates place_cmp all after placed.place (Some placed.entry) → next
+    ≡ put_at last (placed.place.0 - 1) placed → AreKept after next
+AreKept-put all after last next placed kept updates is level other at =
+    elim (slice_get-put_at last (placed.place.0 - 1) level placed other (sym (ap (λ l. slice_get l level) is) ∙ at)) [
       | inl (here, same) ↦
-          let itself = eq-eqb slot.place.0 slot.place.0 refl in
-          let too = eq-eqb slot.place.1 slot.place.1 refl in
-          rw (← same) (here, updates.0 slot.place ∙ rw (is_at-place slot.place slot.place, itself, too) refl)
+          let itself = eq-eqb placed.place.0 placed.place.0 refl in
+          let too = eq-eqb placed.place.1 placed.place.1 refl in
+          rw (← same) (here, updates.0 placed.place ∙ rw (is_at-place placed.place placed.place, itself, too) refl)
       | inr (differ, old) ↦
           let before = kept level other old in
-          let apart = ne_eqb slot.place.0 other.place.0 (λ same. differ (ap (λ (n : ℕ). n - 1) same ∙ before.0)) in
-          (before.0, updates.0 other.place ∙ rw (is_at-place slot.place other.place, apart) refl ∙ before.1)
+          let apart = ne_eqb placed.place.0 other.place.0 (λ same. differ (ap (λ (n : ℕ). n - 1) same ∙ before.0)) in
+          (before.0, updates.0 other.place ∙ rw (is_at-place placed.place other.place, apart) refl ∙ before.1)
     ]
 
 -- ---- entries

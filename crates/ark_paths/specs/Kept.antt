@@ -6,7 +6,7 @@ use Rattle.std.specs.List.{slice_get}
 use Rattle.std.specs.Ordering.{nat_cmp, ordering_then}
 use Rattle.std.specs.declared.cmp.Ordering.{Ordering}
 use Rattle.ark_paths.specs.declared.multi_path.table.Entry.{Entry}
-use Rattle.ark_paths.specs.declared.multi_path.table.Slot.{Slot}
+use Rattle.ark_paths.specs.declared.multi_path.table.Placed.{Placed}
 
 -- places in the order of level and number
 abbrev pub place_cmp : ℕ × ℕ → ℕ × ℕ → Ordering
@@ -23,6 +23,6 @@ put_at (y ∷ ys) zero x = x ∷ ys
 put_at (y ∷ ys) (suc i) x = y ∷ put_at ys i x
 
 -- Each entry of a list is the one that is kept at its place, and stands in the list at its level less one.
-abbrev pub AreKept : {X : Type 0} → BTreeMap (ℕ × ℕ) (Entry X) → List (Slot X) → Type 0
-AreKept {X} all last = (level : ℕ) (slot : Slot X) → slice_get last level ≡ Some slot
-    → (slot.place.0 - 1 ≡ level) × (get place_cmp all slot.place ≡ Some slot.entry)
+abbrev pub AreKept : {X : Type 0} → BTreeMap (ℕ × ℕ) (Entry X) → List (Placed X) → Type 0
+AreKept {X} all last = (level : ℕ) (placed : Placed X) → slice_get last level ≡ Some placed
+    → (placed.place.0 - 1 ≡ level) × (get place_cmp all placed.place ≡ Some placed.entry)

@@ -18,5 +18,5 @@ pub mod Above
 pub mod Asked
 pub mod Kept
 pub mod Table
-pub mod Groups
+pub mod Nodes
 pub mod Laws

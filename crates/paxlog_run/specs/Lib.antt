@@ -1,4 +1,5 @@
 pub mod Entries
+pub mod Places
 pub mod Replies
 pub mod Requests
 pub mod Verdicts

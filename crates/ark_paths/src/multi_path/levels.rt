@@ -1,11 +1,11 @@
 //! The check of a multi-proof a level at a time, so that the couples of a level are hashed together.
 //!
-//! Paths that have one node on a level are a group there, and the first of them stands for it. The check finds that
+//! Paths that meet in one node go on together, and the first of them stands for all. The check finds that
 //! every path gives the root, or it finds nothing: then the walk from leaf to leaf decides, and all errors are its own.
 
 ghost use Rattle.std.specs.Prelude.{◌≡◌, true, ◌+◌, ◌-◌, ◌/◌, ◌^◌, ◌<◌, ◌≤◌, suc, ℕ, List, [], length, map, get_or, IfOk, MatchOption, OnOk, Ok};
 ghost use Rattle.ark_crh.specs.Ahead.{lent_couple, lent_couples};
-ghost use Rattle.ark_paths.specs.Groups.{AllClimb, AllRoot, AreAmongFirst, AreBeside, AreGroups, AreJoined, ArePaths, HasParts, IsFoundBeside};
+ghost use Rattle.ark_paths.specs.Nodes.{AllClimb, AllRoot, AreAmongFirst, AreBeside, AreFirsts, AreJoined, ArePaths, HasParts, IsFoundBeside};
 ghost use Rattle.ark_paths.specs.MultiPath.{listed_way, multi_verdict};
 ghost use Rattle.ark_paths.specs.Pair.{Digest};
 ghost use Rattle.ark_paths.specs.Rows.{digests_of};
@@ -21,14 +21,14 @@ use ark_base::serialize::{DigestItem, Numbered};
 use ark_crh::ahead::lend;
 use std::alloc::Global;
 
-// The groups of a level from the left: the first path of each, and the digest of its node.
+// The nodes of a level on some paths, from the left: the first path through each, and its digest.
 #[derive(Drop)]
-struct Groups<X> {
+struct Nodes<X> {
     firsts: Vec<usize>,
     digests: Vec<X>,
 }
 
-// The groups of the level above: the first path of each, and the digests below its node.
+// The nodes of the level above: the first path through each, and the digests below it.
 #[derive(Drop)]
 struct Joined<'a, X> {
     firsts: Vec<usize>,
@@ -80,8 +80,8 @@ fn beside_at<'a, D: Numbered>(
     }
 }
 
-// The digests of a proof beside the nodes of groups, so many digests below the root.
-fn beside_groups<'a, D: Numbered>(
+// The digests of a proof beside nodes, so many digests below the root.
+fn beside_nodes<'a, D: Numbered>(
     alloc: Global,
     firsts: &[usize],
     depth: usize,
@@ -93,12 +93,12 @@ fn beside_groups<'a, D: Numbered>(
     ensures many { IfOk result (λ beside. length beside.items ≡ length firsts.now) }
     ensures beside { IfOk result (λ beside. (above : List (List Digest)) (count len : ℕ)
         → ArePaths above prefixes.now (map (digests_of D.numbers) suffixes.now) count len
-        → AreAmongFirst count firsts.now → AreGroups above prefixes.now (suc depth) firsts.now
+        → AreAmongFirst count firsts.now → AreFirsts above prefixes.now (suc depth) firsts.now
         → AreBeside above depth firsts.now (map (λ x. D.numbers x.now) beside.items)) }
 {
     let mut beside: Vec<&'a D> = Vec::with_capacity(alloc, firsts.len())?;
-    'groups: for group in 0..firsts.len() {
-        let first = firsts[group];
+    'nodes: for node in 0..firsts.len() {
+        let first = firsts[node];
         let suffix = suffixes[first].as_slice();
         let Some(digest) = beside_at(prefixes[first], suffix, depth, &beside) else {
             return Err(unknown(first));
@@ -133,39 +133,39 @@ fn is_last<X: DigestItem>(couples: &[(&X, &X)], couple: (&X, &X)) -> bool
     }
 }
 
-// The groups of the level above, each with its couple: a group's digest with the proof's beside it. Groups that join have
+// The nodes of the level above, each with its couple: a node's digest with the proof's beside it. Nodes that join have
 // the same couple, so that each has the other's digest beside it, and share the `shared` digests further up.
 fn join<'a, X: DigestItem>(
     alloc: Global,
     level: usize,
     shared: usize,
-    groups: &'a Groups<X>,
+    nodes: &'a Nodes<X>,
     beside: Vec<&'a X>,
     indexes: &[usize],
     prefixes: &[usize],
 ) -> Result<Joined<'a, X>, Error>
-    requires digests { length groups.now.digests.items ≡ length groups.now.firsts.items }
-    requires beside { length beside.items ≡ length groups.now.firsts.items }
+    requires digests { length nodes.now.digests.items ≡ length nodes.now.firsts.items }
+    requires beside { length beside.items ≡ length nodes.now.firsts.items }
     requires prefixes { length indexes.now ≤ length prefixes.now }
-    requires inside { AreAmongFirst (length indexes.now) groups.now.firsts.items }
+    requires inside { AreAmongFirst (length indexes.now) nodes.now.firsts.items }
     ensures many { IfOk result (λ joined.
         length joined.couples.items ≡ length joined.firsts.items) }
     ensures inside { IfOk result (λ joined.
         AreAmongFirst (length indexes.now) joined.firsts.items) }
     ensures joined { IfOk result (λ joined. (above : List (List Digest))
-        → AreGroups above prefixes.now (suc shared) groups.now.firsts.items
-        → AreGroups above prefixes.now shared joined.firsts.items
+        → AreFirsts above prefixes.now (suc shared) nodes.now.firsts.items
+        → AreFirsts above prefixes.now shared joined.firsts.items
         × AreJoined above indexes.now level shared joined.firsts.items
-        (lent_couples X.numbers joined.couples.items) (length groups.now.firsts.items)
-        groups.now.firsts.items (digests_of X.numbers groups.now.digests)
+        (lent_couples X.numbers joined.couples.items) (length nodes.now.firsts.items)
+        nodes.now.firsts.items (digests_of X.numbers nodes.now.digests)
         (map (λ x. X.numbers x.now) beside.entry.items)) }
 {
-    let mut firsts = Vec::with_capacity(alloc, groups.firsts.len())?;
-    let mut couples = Vec::with_capacity(alloc, groups.firsts.len())?;
-    'groups: for group in 0..groups.firsts.len() {
-        let first = groups.firsts[group];
+    let mut firsts = Vec::with_capacity(alloc, nodes.firsts.len())?;
+    let mut couples = Vec::with_capacity(alloc, nodes.firsts.len())?;
+    'nodes: for node in 0..nodes.firsts.len() {
+        let first = nodes.firsts[node];
         let is_right = is_bit_set(indexes[first], level);
-        let couple = in_order(is_right, &groups.digests[group], beside[group]);
+        let couple = in_order(is_right, &nodes.digests[node], beside[node]);
         if is_with_last(&firsts, indexes, first, level) {
             if prefixes[first] < shared || !is_last(&couples, couple) {
                 return Err(unknown(first));
@@ -178,22 +178,22 @@ fn join<'a, X: DigestItem>(
     Ok(Joined { firsts, couples })
 }
 
-// The groups of leaf digests: each path alone.
-fn alone<X: Drop>(alloc: Global, digests: Vec<X>) -> Result<Groups<X>, Error>
-    ensures digests { IfOk result (λ groups. groups.digests ≡ digests) }
-    ensures many { IfOk result (λ groups. length groups.firsts.items ≡ length digests.items) }
-    ensures firsts { IfOk result (λ groups. (g : ℕ) → g < length digests.items
-        → get_or groups.firsts.items g 0 ≡ g) }
+// The nodes of leaf digests: each path alone.
+fn alone<X: Drop>(alloc: Global, digests: Vec<X>) -> Result<Nodes<X>, Error>
+    ensures digests { IfOk result (λ nodes. nodes.digests ≡ digests) }
+    ensures many { IfOk result (λ nodes. length nodes.firsts.items ≡ length digests.items) }
+    ensures firsts { IfOk result (λ nodes. (g : ℕ) → g < length digests.items
+        → get_or nodes.firsts.items g 0 ≡ g) }
 {
     let mut firsts = Vec::with_capacity(alloc, digests.len())?;
     'places: for place in 0..digests.len() {
         firsts.push(place)?;
     }
-    Ok(Groups { firsts, digests })
+    Ok(Nodes { firsts, digests })
 }
 
-// The groups above those of leaf digests.
-fn lowest_groups<L: DigestItem, D: DigestItem, T: TreeHasher<L, D>>(
+// The nodes above those of leaf digests.
+fn lowest_nodes<L: DigestItem, D: DigestItem, T: TreeHasher<L, D>>(
     alloc: Global,
     hasher: &T,
     len: usize,
@@ -201,65 +201,65 @@ fn lowest_groups<L: DigestItem, D: DigestItem, T: TreeHasher<L, D>>(
     siblings: &[L],
     prefixes: &[usize],
     indexes: &[usize],
-) -> Result<Groups<D>, Error>
+) -> Result<Nodes<D>, Error>
     requires digests { length digests.items ≡ length indexes.now }
     requires siblings { length siblings.now ≡ length indexes.now }
     requires prefixes { length indexes.now ≤ length prefixes.now }
-    ensures many { IfOk result (λ groups.
-        length groups.digests.items ≡ length groups.firsts.items) }
-    ensures inside { IfOk result (λ groups.
-        AreAmongFirst (length indexes.now) groups.firsts.items) }
-    ensures groups { IfOk result (λ groups. (above suffixes : List (List Digest))
+    ensures many { IfOk result (λ nodes.
+        length nodes.digests.items ≡ length nodes.firsts.items) }
+    ensures inside { IfOk result (λ nodes.
+        AreAmongFirst (length indexes.now) nodes.firsts.items) }
+    ensures nodes { IfOk result (λ nodes. (above suffixes : List (List Digest))
         → ArePaths above prefixes.now suffixes (length indexes.now) len
-        → AreGroups above prefixes.now len groups.firsts.items
+        → AreFirsts above prefixes.now len nodes.firsts.items
         × ((root : Digest) → AllClimb (T.hashes hasher.now).pair root above indexes.now 0 len
-        groups.firsts.items (digests_of D.numbers groups.digests)
+        nodes.firsts.items (digests_of D.numbers nodes.digests)
         → AllRoot (T.hashes hasher.now).pair root above (map L.numbers siblings.now) indexes.now
         (length indexes.now) (digests_of L.numbers digests))) }
 {
-    let groups = alone(alloc, digests)?;
+    let nodes = alone(alloc, digests)?;
     let beside = lend(alloc, siblings)?;
-    let joined = join(alloc, 0, len, &groups, beside, indexes, prefixes)?;
+    let joined = join(alloc, 0, len, &nodes, beside, indexes, prefixes)?;
     let digests = bottom_in_runs(alloc, hasher, &joined.couples)?;
-    Ok(Groups {
+    Ok(Nodes {
         firsts: joined.firsts,
         digests,
     })
 }
 
-// The groups above those of a row, on paths of `len` digests.
-fn groups_above<L: DigestItem, D: DigestItem, T: TreeHasher<L, D>>(
+// The nodes above those of a row, on paths of `len` digests.
+fn nodes_above<L: DigestItem, D: DigestItem, T: TreeHasher<L, D>>(
     alloc: Global,
     hasher: &T,
     row: usize,
     len: usize,
-    groups: &Groups<D>,
+    nodes: &Nodes<D>,
     prefixes: &[usize],
     suffixes: &[Vec<D>],
     indexes: &[usize],
-) -> Result<Groups<D>, Error>
+) -> Result<Nodes<D>, Error>
     requires row { row < len }
-    requires digests { length groups.now.digests.items ≡ length groups.now.firsts.items }
+    requires digests { length nodes.now.digests.items ≡ length nodes.now.firsts.items }
     requires prefixes { length indexes.now ≤ length prefixes.now }
     requires suffixes { length indexes.now ≤ length suffixes.now }
-    requires inside { AreAmongFirst (length indexes.now) groups.now.firsts.items }
+    requires inside { AreAmongFirst (length indexes.now) nodes.now.firsts.items }
     ensures many { IfOk result (λ next. length next.digests.items ≡ length next.firsts.items) }
     ensures inside { IfOk result (λ next. AreAmongFirst (length indexes.now) next.firsts.items) }
-    ensures groups { IfOk result (λ next. (above : List (List Digest))
+    ensures nodes { IfOk result (λ next. (above : List (List Digest))
         → ArePaths above prefixes.now (map (digests_of D.numbers) suffixes.now)
         (length indexes.now) len
-        → AreGroups above prefixes.now (len - row) groups.now.firsts.items
-        → AreGroups above prefixes.now (len - suc row) next.firsts.items
+        → AreFirsts above prefixes.now (len - row) nodes.now.firsts.items
+        → AreFirsts above prefixes.now (len - suc row) next.firsts.items
         × ((root : Digest) → AllClimb (T.hashes hasher.now).pair root above indexes.now (suc row)
         (len - suc row) next.firsts.items (digests_of D.numbers next.digests)
         → AllClimb (T.hashes hasher.now).pair root above indexes.now row (len - row)
-        groups.now.firsts.items (digests_of D.numbers groups.now.digests))) }
+        nodes.now.firsts.items (digests_of D.numbers nodes.now.digests))) }
 {
     let depth = len - row - 1;
-    let beside = beside_groups(alloc, &groups.firsts, depth, prefixes, suffixes)?;
-    let joined = join(alloc, row + 1, depth, groups, beside, indexes, prefixes)?;
+    let beside = beside_nodes(alloc, &nodes.firsts, depth, prefixes, suffixes)?;
+    let joined = join(alloc, row + 1, depth, nodes, beside, indexes, prefixes)?;
     let digests = upper_in_runs(alloc, hasher, &joined.couples)?;
-    Ok(Groups {
+    Ok(Nodes {
         firsts: joined.firsts,
         digests,
     })
@@ -292,7 +292,7 @@ pub fn find_accepted<L: DigestItem, D: DigestItem, T: TreeHasher<L, D>>(
         return Err(unknown(0));
     }
     let digests = leaves_in_runs(alloc, hasher, part_of(leaves, 0, count))?;
-    let mut groups = lowest_groups(
+    let mut nodes = lowest_nodes(
         alloc,
         hasher,
         len,
@@ -302,11 +302,11 @@ pub fn find_accepted<L: DigestItem, D: DigestItem, T: TreeHasher<L, D>>(
         indexes,
     )?;
     'rows: for row in 0..len {
-        groups = groups_above::<L, D, T>(
-            alloc, hasher, row, len, &groups, prefixes, suffixes, indexes,
+        nodes = nodes_above::<L, D, T>(
+            alloc, hasher, row, len, &nodes, prefixes, suffixes, indexes,
         )?;
     }
-    if groups.digests.len() == 1 && groups.digests[0] == *root {
+    if nodes.digests.len() == 1 && nodes.digests[0] == *root {
         Ok(())
     } else {
         Err(unknown(0))

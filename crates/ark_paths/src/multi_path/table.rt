@@ -37,7 +37,7 @@ pub struct Entry<'a, X> {
 
 /// An entry with its place: a level, counted from the lowest pairs, and a number on it.
 #[derive(Drop)]
-pub struct Slot<'a, X> {
+pub struct Placed<'a, X> {
     pub place: (usize, usize),
     pub entry: Entry<'a, X>,
 }
@@ -49,7 +49,7 @@ pub struct Entries<'a, X> {
     pub all: BTreeMap<(usize, usize), Entry<'a, X>, Global>,
     /// For each level the entry that came last, which for most is that of the path before: a path shares most of its places
     /// with the next one. It stands at its level less one, since entries are of the lowest level alone or begin above it.
-    pub last: Vec<Slot<'a, X>>,
+    pub last: Vec<Placed<'a, X>>,
 }
 
 /// The digests that were computed, each once, and the pairs that gave them.
@@ -124,9 +124,9 @@ fn found<'b, X>(entries: &'b Entries<X>, place: (usize, usize)) -> Option<&'b En
     ensures { let kept = get place_cmp entries.now.all place in
         MatchOption result (kept ≡ None) (λ entry. kept ≡ Some entry.now) }
 {
-    if let Some(slot) = entries.last.get(place.0.saturating_sub(1)) {
-        if slot.place == place {
-            return Some(&slot.entry);
+    if let Some(placed) = entries.last.get(place.0.saturating_sub(1)) {
+        if placed.place == place {
+            return Some(&placed.entry);
         }
     }
     entries.all.get(&place)
@@ -210,7 +210,7 @@ fn keep<'a, X, D: DigestItem>(
     put(
         &mut entries.last,
         place.0.saturating_sub(1),
-        Slot { place, entry },
+        Placed { place, entry },
     )?;
     Ok(number)
 }

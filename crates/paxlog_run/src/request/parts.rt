@@ -1,7 +1,7 @@
 //! Words at their places: counted, and read as numbers, digests, options and origins.
 
 ghost use Rattle.std.specs.Prelude.{◌≡◌, ◌+◌, ◌≤◌, map, vec_items};
-ghost use Rattle.paxlog_run.specs.Requests.{counted, digest_word_at, digest_in_hex, keyed_at, number_word_at, origin_at, signers_at, site_at, site_by, size_at, typed_at};
+ghost use Rattle.paxlog_run.specs.Places.{counted, digest_word_at, digest_in_hex, keyed_at, number_word_at, origin_at, signers_at, site_at, site_by, size_at, typed_at};
 
 use crate::request::{Keyed, Misuse, Signers, Site, Word, bytes_at};
 use decimals::decimal_number;

@@ -1,4 +1,4 @@
-use Rattle.std.proofs.Common.{arith, ◌∙◌, map}
+use Rattle.std.proofs.Common.{arith, ◌∙◌}
 use Rattle.std.proofs.lemmas.List.{map-id}
 use Rattle.ark_base.specs.Digits.{itself}
 use Rattle.ark_crh.specs.Ahead.{lent_couple, of_couple}

@@ -5,32 +5,32 @@ use Rattle.ark_crh.specs.Ahead.{lent_couple}
 use Rattle.ark_paths.specs.Bind.{couple}
 use Rattle.ark_paths.specs.Index.{bit_at}
 use Rattle.ark_paths.specs.Rows.{digests_of}
-use Rattle.ark_paths.proofs.GroupSteps.{joined-more, joined-same, inside-push, length-push}
+use Rattle.ark_paths.proofs.NodeSteps.{joined-more, joined-same, inside-push, length-push}
 use Rattle.ark_paths.proofs.multi_path.levels.join.Goals.{then-is_with_last+else-prefixes-first+else-not-is_last, else-is_with_last+in_ok-push+in_ok-push-2}
 use Rattle.ark_paths.proofs.multi_path.levels.join.Goals as goal
 
-pub groups-preserved : goal.groups-preserved
-groups-preserved g c =
+pub nodes-preserved : goal.nodes-preserved
+nodes-preserved g c =
     let numbers = g.X.Numbered.numbers in
-    let before = c.groups.invariant in
-    let paths = c.args.groups.now.firsts.items in
-    let below : c.groups.group < length paths = omega (arith, c.groups-test.true, c.len-group-end.ensures) in
-    let own : get_or (digests_of numbers c.args.groups.now.digests) c.groups.group [] ≡ numbers c.index.result.now =
-    get_or-map numbers c.args.groups.now.digests.items c.groups.group c.index.result.now []
+    let before = c.nodes.invariant in
+    let paths = c.args.nodes.now.firsts.items in
+    let below : c.nodes.node < length paths = omega (arith, c.nodes-test.true, c.len-node-end.ensures) in
+    let own : get_or (digests_of numbers c.args.nodes.now.digests) c.nodes.node [] ≡ numbers c.index.result.now =
+    get_or-map numbers c.args.nodes.now.digests.items c.nodes.node c.index.result.now []
     (omega (arith, below, c.requires.digests)) ∙ ap numbers (sym c.index.ensures) in
-    let beside : get_or (map (λ x. numbers x.now) c.args.beside.items) c.groups.group []
-    ≡ numbers c.index-in-groups.result.now.now =
-    get_or-map (λ x. numbers x.now) c.args.beside.items c.groups.group c.index-in-groups.result.now []
-    (omega (arith, below, c.requires.beside)) ∙ ap (λ x. numbers x.now) (sym c.index-in-groups.ensures) in
+    let beside : get_or (map (λ x. numbers x.now) c.args.beside.items) c.nodes.node []
+    ≡ numbers c.index-in-nodes.result.now.now =
+    get_or-map (λ x. numbers x.now) c.args.beside.items c.nodes.node c.index-in-nodes.result.now []
+    (omega (arith, below, c.requires.beside)) ∙ ap (λ x. numbers x.now) (sym c.index-in-nodes.ensures) in
     let first = c.index-first.result.now in
-    let first_is : first ≡ get_or paths c.groups.group 0 =
-    c.index-first.ensures ∙ get_or_default_zero paths c.groups.group first below in
-    let inside : first < length c.args.indexes.now = rw first_is (c.requires.inside c.groups.group below) in
-    let many = length-map c.groups.couples.items (lent_couple numbers) in
+    let first_is : first ≡ get_or paths c.nodes.node 0 =
+    c.index-first.ensures ∙ get_or_default_zero paths c.nodes.node first below in
+    let inside : first < length c.args.indexes.now = rw first_is (c.requires.inside c.nodes.node below) in
+    let many = length-map c.nodes.couples.items (lent_couple numbers) in
     let made_is : lent_couple numbers c.in_order-couple.result
     ≡ couple (bit_at (get_or c.args.indexes.now first 0) c.args.level)
-    (get_or (digests_of numbers c.args.groups.now.digests) c.groups.group [])
-    (get_or (map (λ x. numbers x.now) c.args.beside.items) c.groups.group []) =
+    (get_or (digests_of numbers c.args.nodes.now.digests) c.nodes.node [])
+    (get_or (map (λ x. numbers x.now) c.args.beside.items) c.nodes.node []) =
     rw (own, beside, ← c.is_bit_set-is_right.ensures) c.in_order-couple.ensures in
     elim c.if-is_with_last.branch [
       | then-is_with_last+else-prefixes-first+else-not-is_last w ↦
@@ -41,22 +41,22 @@ groups-preserved g c =
             inside = before.inside;
             joined = λ above apart.
                 joined-same above c.args.prefixes.now c.args.indexes.now c.args.level c.args.shared paths _ _ apart
-                c.groups.group c.groups.firsts.items _ (many ∙ before.many) below (before.joined above apart) first
+                c.nodes.node c.nodes.firsts.items _ (many ∙ before.many) below (before.joined above apart) first
                 first_is _ made_is last.0 (omega (arith, w.if-prefixes-first.false)) last.1 (rw many same);
           })
       | else-is_with_last+in_ok-push+in_ok-push-2 w ↦
           rw (w.firsts-is, w.couples-is, w.in_ok-push.ensures.items, w.in_ok-push-2.ensures.items, map_push)
           (record {
             many = length-push _ _ ∙ ap (λ (n : ℕ). n + 1) before.many ∙ sym (length-push _ _);
-            inside = inside-push (length c.args.indexes.now) c.groups.firsts.items first before.inside inside;
+            inside = inside-push (length c.args.indexes.now) c.nodes.firsts.items first before.inside inside;
             joined = λ above apart.
                 joined-more above c.args.prefixes.now c.args.indexes.now c.args.level c.args.shared paths _ _ apart
-                c.groups.group c.groups.firsts.items _ (many ∙ before.many) below (before.joined above apart) first
+                c.nodes.node c.nodes.firsts.items _ (many ∙ before.many) below (before.joined above apart) first
                 first_is _ made_is;
           })
     ]
 
 pub returns-clause-joined : goal.returns-clause-joined
 returns-clause-joined g c = λ above apart.
-    let j = c.groups.invariant.joined above apart in
-    (j.groups, λ g below. j.joined g (omega (arith, below, c.groups-test.false, c.len-group-end.ensures)))
+    let j = c.nodes.invariant.joined above apart in
+    (j.nodes, λ g below. j.joined g (omega (arith, below, c.nodes-test.false, c.len-node-end.ensures)))

@@ -6,7 +6,7 @@ use Rattle.std.proofs.lemmas.Option.{slice_get-get_or}
 use Rattle.std.proofs.Math.Seq.{drop-append_seam}
 use Rattle.std.specs.declared.vec.Vec.{Vec}
 use Rattle.ark_base.specs.Outcome.{Outcome}
-use Rattle.ark_paths.specs.Groups.{AllClimb, AllRoot, AreGroups, ArePaths, HasParts, listed_path, paths_after}
+use Rattle.ark_paths.specs.Nodes.{AllClimb, AllRoot, AreFirsts, ArePaths, HasParts, listed_path, paths_after}
 use Rattle.ark_paths.specs.MultiPath.{MultiWay, decoded_path, decoded_paths_from, multi_verdict, multi_verdict_from, path_length}
 use Rattle.ark_paths.specs.Pair.{Digest, HashPair}
 use Rattle.ark_paths.specs.Path.{path_root}
@@ -133,11 +133,11 @@ module _ (prefixes : List ℕ) (suffixes : List (List Digest)) (count len : ℕ)
   are_paths = (follow prefixes suffixes [] count len parts
       (λ some. omega (arith, parts.fit 0 some, first some))).are
 
--- each path as a group of its own
-pub groups-alone : (above : List (List Digest)) (prefixes : List ℕ) (suffixes : List (List Digest)) (count len most : ℕ)
+-- each path as a node of its own
+pub nodes-alone : (above : List (List Digest)) (prefixes : List ℕ) (suffixes : List (List Digest)) (count len most : ℕ)
     (firsts : List ℕ) → ArePaths above prefixes suffixes count len → length firsts ≡ count
-    → ((g : ℕ) → g < count → get_or firsts g 0 ≡ g) → AreGroups above prefixes most firsts
-groups-alone above prefixes suffixes count len most firsts paths many are = λ g n below few takes.
+    → ((g : ℕ) → g < count → get_or firsts g 0 ≡ g) → AreFirsts above prefixes most firsts
+nodes-alone above prefixes suffixes count len most firsts paths many are = λ g n below few takes.
     let here : get_or firsts g 0 ≡ g = are g (omega (arith, below, many)) in
     let next : get_or firsts (suc g) 0 ≡ suc g = are (suc g) (omega (arith, below, many)) in
     rw (here, next) (paths.begins g n (omega (arith, below, many)) (rw next at takes))
@@ -232,7 +232,7 @@ all-root-of leaf siblings h root above indexes count digests roots = λ i below.
     ap (λ ds. get_or ds i []) (sym (take-map leaf count siblings)) ∙ get_or-take count (map leaf siblings) i [] below in
     rw same at (roots i below)
 
--- one group alone has the root's node
+-- one node alone has the root's node
 pub all-climb-top : (h : HashPair) (root : Digest) (above : List (List Digest)) (indexes : List ℕ) (row most : ℕ)
     (firsts : List ℕ) (digests : List Digest) → most ≡ 0 → length firsts ≡ 1 → get_or digests 0 [] ≡ root
     → AllClimb h root above indexes row most firsts digests

@@ -1,11 +1,11 @@
--- One level up for all groups at once.
+-- One level up for all nodes at once.
 use Rattle.std.proofs.Common.{suc, ◌≡◌, ◌==◌, ℕ, ◌/◌, ◌%◌, ◌<◌, ◌^◌, List, [], ◌∷◌, ◌++◌, length, take, get_or, Ok, Err, arith, refl, ap, sym, ◌∙◌, add-one}
 use Rattle.std.proofs.lemmas.List.{take_all, take_more, length-append}
 use Rattle.std.proofs.Math.Nat.{pow-succ', div-div-eq-div-mul}
 use Rattle.ark_base.specs.Outcome.{Outcome, ◌>>=◌}
 use Rattle.ark_crh.specs.Ahead.{of_couple}
 use Rattle.ark_paths.specs.Bind.{couple}
-use Rattle.ark_paths.specs.Groups.{AllClimb, AllRoot, AreBeside, AreAmongFirst, AreJoined}
+use Rattle.ark_paths.specs.Nodes.{AllClimb, AllRoot, AreBeside, AreAmongFirst, AreJoined}
 use Rattle.ark_paths.specs.Index.{bit_at}
 use Rattle.ark_paths.specs.Pair.{Digest, HashPair, hash_in_order}
 use Rattle.ark_paths.specs.Path.{climb}

@@ -2,9 +2,9 @@ use Rattle.std.proofs.Common.{◌≡◌, ◌-◌, suc, length, get_or, arith, sy
 use Rattle.std.proofs.lemmas.List.{length-map}
 use Rattle.ark_crh.specs.Ahead.{lent_couple, lent_couples, of_couple}
 use Rattle.ark_paths.specs.Rows.{digests_of}
-use Rattle.ark_paths.proofs.GroupClimbs.{all-climb-below}
+use Rattle.ark_paths.proofs.NodeClimbs.{all-climb-below}
 use Rattle.ark_paths.proofs.ListOutcomes.{length-each}
-use Rattle.ark_paths.proofs.multi_path.levels.groups_above.Goals as goal
+use Rattle.ark_paths.proofs.multi_path.levels.nodes_above.Goals as goal
 
 pub returns-clause-many : goal.returns-clause-many
 returns-clause-many g c =
@@ -15,11 +15,11 @@ returns-clause-many g c =
     (rw c.deref-2.ensures.value at c.in_ok-digests.ensures)
     ∙ length-map couples (lent_couple numbers) ∙ c.in_ok-joined.ensures.many
 
-pub returns-clause-groups : goal.returns-clause-groups
-returns-clause-groups g c = λ above paths apart.
+pub returns-clause-nodes : goal.returns-clause-nodes
+returns-clause-nodes g c = λ above paths apart.
     let numbers = g.D.Numbered.numbers in
     let h = (g.T.TreeHasher.hashes c.args.hasher.now).pair in
-    let firsts = c.args.groups.now.firsts.items in
+    let firsts = c.args.nodes.now.firsts.items in
     let couples = c.in_ok-joined.joined.couples.items in
     let depth = c.args.len - c.args.row - 1 in
     let here : c.args.len - c.args.row ≡ suc depth = omega (arith, c.requires.row) in
@@ -33,7 +33,7 @@ returns-clause-groups g c = λ above paths apart.
       λ root climbs.
           all-climb-below h root above c.args.indexes.now c.args.row depth c.in_ok-joined.joined.firsts.items
           (lent_couples numbers couples) (digests_of numbers c.in_ok-digests.digests) firsts
-          (digests_of numbers c.args.groups.now.digests) _ j.1 beside
+          (digests_of numbers c.args.nodes.now.digests) _ j.1 beside
           (λ g below. omega (arith, paths.long (get_or firsts g 0) (c.requires.inside g below), here))
           (length-map couples (lent_couple numbers) ∙ c.in_ok-joined.ensures.many)
           (rw c.deref-2.ensures.value at c.in_ok-digests.ensures) climbs,

@@ -1,5 +1,5 @@
--- The check of a multi-proof a level at a time. Paths that have one node on a level are a group there, which its first
--- path stands for. Paths are named by their places in the multi-proof; level 0 has the leaf digests, and a level's row
+-- The check of a multi-proof a level at a time. Paths that meet in one node go on together, and the first of them
+-- stands for all. Paths are named by their places in the multi-proof; level 0 has the leaf digests, and a level's row
 -- is its number less one.
 use Rattle.std.specs.Prelude.{◌≡◌, ◌⊎◌, ℕ, suc, ◌+◌, ◌-◌, ◌/◌, ◌^◌, ◌<◌, ◌≤◌, List, [], ◌∷◌, ◌++◌, length, take, drop, get_or, Ok}
 use Rattle.ark_paths.specs.Bind.{couple}
@@ -33,10 +33,10 @@ pub record ArePaths (above : List (List Digest)) (prefixes : List ℕ) (suffixes
 abbrev pub AreAmongFirst : ℕ → List ℕ → Type 0
 AreAmongFirst count firsts = (g : ℕ) → g < length firsts → get_or firsts g 0 < count
 
--- Each path but the first shares with the one before, of those that stand for groups, as many first digests as it takes
--- from the path before it in the proof, or as many as stand on the levels from this one up.
-abbrev pub AreGroups : List (List Digest) → List ℕ → ℕ → List ℕ → Type 0
-AreGroups above prefixes most firsts = (g n : ℕ) → suc g < length firsts → n ≤ most
+-- Each path but the first shares with the one before, of the first ones through nodes, as many first digests as it
+-- takes from the path before it in the proof, or as many as stand on the levels from this one up.
+abbrev pub AreFirsts : List (List Digest) → List ℕ → ℕ → List ℕ → Type 0
+AreFirsts above prefixes most firsts = (g n : ℕ) → suc g < length firsts → n ≤ most
     → n ≤ get_or prefixes (get_or firsts (suc g) 0) 0
     → take n (get_or above (get_or firsts g 0) []) ≡ take n (get_or above (get_or firsts (suc g) 0) [])
 
@@ -62,13 +62,13 @@ pub record IsJoined (above : List (List Digest)) (indexes : List ℕ) (level mos
   pub number : get_or indexes path 0 / 2 ^ suc level ≡ get_or indexes (get_or firsts at 0) 0 / 2 ^ suc level
   pub digests : take most (get_or above path []) ≡ take most (get_or above (get_or firsts at 0) [])
 
--- all groups, up to one, are joined so
+-- all nodes, up to one, are joined so
 abbrev pub AreJoined : List (List Digest) → List ℕ → ℕ → ℕ → List ℕ → List (Digest × Digest) → ℕ → List ℕ
     → List Digest → List Digest → Type 0
 AreJoined above indexes level most firsts couples count paths own beside = (g : ℕ) → g < count
     → IsJoined above indexes level most firsts couples (get_or paths g 0) (get_or own g []) (get_or beside g [])
 
--- On each group's path the digest of its node in a row gives the root, over the digests further up.
+-- On each node's path the digest of its node in a row gives the root, over the digests further up.
 abbrev pub AllClimb : HashPair → Digest → List (List Digest) → List ℕ → ℕ → ℕ → List ℕ → List Digest → Type 0
 AllClimb h root above indexes row most firsts digests = (g : ℕ) → g < length firsts
     → climb h.upper (get_or indexes (get_or firsts g 0) 0 / 2 ^ row) (take most (get_or above (get_or firsts g 0) []))
