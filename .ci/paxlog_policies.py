@@ -109,7 +109,8 @@ def asks_by_policy(room, verifier, notes):
         check("its receipt", status == 0 and ask("verify-receipt", *lately, entry, receipt) == wanted)
     check("no SECONDS", ask("audit", site, *own, "--not-older-than")[:2] == (2, ""))
     check("SECONDS that are no number", ask("audit", site, *own, "--not-older-than", "1x")[:2] == (2, ""))
-    check("a witness that replies takes none", ask("witness-request", *lately, state, "--key", room + "/witness-key")[:2] == (2, ""))
+    alike = [ask("witness-request", *who, state, "--key", room + "/witness-key") for who in (own, lately)]
+    check("a witness that replies takes one", alike[0] == alike[1] and alike[0][0] != 2)
     for lines, why in NO_POLICIES:
         own = by(lines)
         count = (whole + lines).count("\n") + (lines != "")

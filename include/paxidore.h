@@ -2,9 +2,8 @@
  *
  * The code behind these calls is proved. No call keeps memory or a pointer, and each may run in any thread at any time.
  * The calls of trees, logs, maps, transcripts and Poseidon allocate by the process's malloc, realloc and free: do not
- * call them in a signal handler, nor in the child of a process with threads between fork and exec. Where malloc returns
- * NULL the answer is PAXIDORE_E_MEMORY; no clause says that enough memory is not answered so. The calls of kept trees
- * but paxidore_tree_multi_path, of hashes, commitments and Ed25519 allocate nothing.
+ * call them in a signal handler, nor in the child of a process with threads between fork and exec. To NULL of malloc
+ * they answer E_MEMORY. Those of kept trees but _multi_path, of hashes, commitments and Ed25519 allocate nothing.
  *
  * size_t has 64 bits. Only inputs may overlap. A pointer to a first byte or number is not NULL and may be read, or
  * written where it is not const, for its length; with length 0 it is not looked at and may be NULL. `x`, `x_room`,
@@ -65,7 +64,11 @@ enum paxidore_answer {
     PAXIDORE_E_SHORT = -12,    /* the file of a log ends before the digests of the log's size */
     PAXIDORE_E_HEAD = -13,     /* under the title of a log's file neither slot is whole; or its first sector is lost */
     PAXIDORE_E_DAMAGED = -14,  /* the file of a log has a digest that was not stored, or states another root */
-    PAXIDORE_E_HIDDEN = -15    /* the tree of a map hides what the call needs */
+    PAXIDORE_E_HIDDEN = -15,   /* the tree of a map hides what the call needs */
+    PAXIDORE_E_POLICY = -16,   /* as the next three of paxidore_notes.h: the text is no policy */
+    PAXIDORE_E_SIGNATURE = -17, /* a signature that names a key is none by it */
+    PAXIDORE_E_UNSIGNED = -18, /* a checkpoint lacks signatures that are asked for */
+    PAXIDORE_E_ORIGIN = -19    /* a checkpoint is of another origin, or the one that is asked for is no text */
 };
 
 /* A few words on an answer, for people. Never NULL. */
@@ -142,8 +145,7 @@ PAXIDORE_ANSWERS PAXIDORE_NOT_NULL((3)) int32_t paxidore_multi_path(
 PAXIDORE_ANSWERS int32_t paxidore_tree_build(uint8_t *tree, size_t tree_len, uint32_t hashing,
     const uint8_t *leaves, size_t leaves_len, const size_t *lengths, size_t count);
 
-/* Writes the digests above those of the leaves that stand in memory, from the lowest up: all but the last `size`
- * digests. The memory then holds the tree above these. E_INVALID, E_SIZE. */
+/* Writes the digests above the last `size` ones, those of the leaves, from the lowest up. E_INVALID, E_SIZE. */
 PAXIDORE_ANSWERS int32_t paxidore_tree_rebuild(uint8_t *tree, size_t tree_len, uint32_t hashing);
 
 /* Changes the leaf at `index`: writes its digest, then each above it as the hash of the two below it, the root last,
@@ -222,8 +224,7 @@ PAXIDORE_ANSWERS PAXIDORE_NOT_NULL((3)) int32_t paxidore_log_inclusion(
 PAXIDORE_ANSWERS PAXIDORE_NOT_NULL((3)) int32_t paxidore_log_consistency( uint8_t *proof, size_t proof_room,
     size_t *proof_len, const uint8_t *kept, size_t kept_len, size_t old_size, size_t size);
 
-/* OK where each stored digest of two others is their hash: they are those of a log of the entries whose own digests
- * stand among them. Else NOT_SHOWN: they are no log's. All are hashed. E_SIZE. */
+/* OK where each stored digest of two others is their hash: they are a log's. Else NOT_SHOWN. All are hashed. E_SIZE. */
 PAXIDORE_ANSWERS int32_t paxidore_log_check(const uint8_t *kept, size_t kept_len, size_t size);
 
 /* ---- Logs in files of the caller's. No call reads or writes a file: the calls say what is to be read and written.
@@ -392,8 +393,7 @@ enum paxidore_byte_order {
  * eight bytes. It is made once and copied or stored as you like. E_TRUNCATED is said of one that was cut, or of earlier
  * versions' without a check sum, E_INVALID of one that was changed, before elements are read. None has more bytes. */
 #define PAXIDORE_POSEIDON_TABLEBYTES(inputs) \
-    (9U + 32U * (((size_t)(inputs) + 1U) * ((size_t)(inputs) + 11U) + \
-                 (size_t)(inputs) * (2U * (size_t)(inputs) + 1U) + 70U))
+    (9U + 32U * ((size_t)(inputs) * (3U * (size_t)(inputs) + 13U) + 81U))
 
 /* Writes the table of 1 to 16 inputs, in milliseconds. E_COUNT for another count, E_ROOM, E_MEMORY. */
 PAXIDORE_ANSWERS PAXIDORE_NOT_NULL((3)) int32_t paxidore_poseidon_table(

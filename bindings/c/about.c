@@ -27,6 +27,10 @@ const char *paxidore_strerror(int32_t answer) {
     case PAXIDORE_E_HEAD: return "the head of the log's file is damaged";
     case PAXIDORE_E_DAMAGED: return "the file of the log is damaged";
     case PAXIDORE_E_HIDDEN: return "the tree of the map hides what is needed";
+    case PAXIDORE_E_POLICY: return "the text is no policy";
+    case PAXIDORE_E_SIGNATURE: return "a signature by a key does not hold";
+    case PAXIDORE_E_UNSIGNED: return "the checkpoint lacks signatures that are asked for";
+    case PAXIDORE_E_ORIGIN: return "the checkpoint is of another origin";
     default: return "unknown answer";
     }
 }

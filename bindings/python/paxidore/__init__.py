@@ -16,7 +16,7 @@ Whoever has the root and the count checks them without the other leaves::
 leaves in a tree. ``Tree`` keeps the digests of one in memory or in a file. ``Log`` is a log of any size, in memory or in a file, with
 the checks for its clients. ``Map`` is a map with one root, in memory or in a file, with proofs of what it has and has not.
 ``Transcript`` is Poseidon's duplex sponge over a field. ``blake2s_commit`` commits to a value that is
-shown later. ``ed25519`` signs and verifies. ``poseidon`` has circomlib's hash.
+shown later. ``ed25519`` signs and verifies. ``notes`` has signed checkpoints and receipts. ``poseidon`` has circomlib's hash.
 
 The library is found by the variable ``PAXIDORE_LIBRARY`` (a path), else beside this file, where a wheel has it, else as the
 system finds ``libpaxidore.so.1``. Where it is not there, or is older than this module, ``import paxidore`` raises
@@ -27,8 +27,9 @@ import sys
 if not getattr(sys, "_is_gil_enabled", lambda: True)():
     raise ImportError("paxidore was not tested without Python's global lock: set PYTHON_GIL=1")
 
-from . import ed25519, poseidon
+from . import ed25519, notes, poseidon
 from ._library import (
+    BadSignature,
     CountError,
     DamagedHead,
     DamagedLog,
@@ -38,6 +39,9 @@ from ._library import (
     InvalidProof,
     LengthsError,
     NoLog,
+    NoPolicy,
+    NotSigned,
+    OtherOrigin,
     OutOfMemory,
     Refused,
     ShortLog,
@@ -55,6 +59,7 @@ from .trees import Trees, rfc6962, sha256
 __version__ = "1.0.0"
 
 __all__ = [
+    "BadSignature",
     "Blake2s",
     "CountError",
     "DamagedHead",
@@ -70,6 +75,9 @@ __all__ = [
     "Map",
     "MapVersion",
     "NoLog",
+    "NoPolicy",
+    "NotSigned",
+    "OtherOrigin",
     "OutOfMemory",
     "Refused",
     "ShortLog",

@@ -126,6 +126,30 @@ class HiddenTree(Refused, ValueError):
     code = -15
 
 
+class NoPolicy(Refused, ValueError):
+    """The text is no policy."""
+
+    code = -16
+
+
+class BadSignature(Refused, ValueError):
+    """A signature that names a key is none by it."""
+
+    code = -17
+
+
+class NotSigned(Refused, ValueError):
+    """The log did not sign the checkpoint, or too few witnesses did."""
+
+    code = -18
+
+
+class OtherOrigin(Refused, ValueError):
+    """The checkpoint is of another origin, or the origin that is asked for is no text."""
+
+    code = -19
+
+
 class OutOfMemory(Refused, MemoryError):
     """A request for memory was refused."""
 
@@ -148,6 +172,10 @@ _KINDS = {
         DamagedHead,
         DamagedLog,
         HiddenTree,
+        NoPolicy,
+        BadSignature,
+        NotSigned,
+        OtherOrigin,
     )
 }
 

@@ -26,6 +26,7 @@ mod log;
 #[cfg(feature = "std")]
 mod log_file;
 mod map;
+pub mod notes;
 pub mod poseidon;
 #[cfg_attr(not(feature = "std"), allow(dead_code))]
 mod sys;
@@ -87,6 +88,14 @@ pub enum Refused {
     Damaged,
     /// The witness of changes hides what they need.
     Hidden,
+    /// The text is no policy.
+    NoPolicy,
+    /// A signature that names a key is none by it.
+    BadSignature,
+    /// The log did not sign the checkpoint, or too few witnesses did.
+    NotSigned,
+    /// The checkpoint is of another origin.
+    OtherOrigin,
     /// Another answer of a library that is newer than this crate.
     Other(i32),
 }
@@ -108,6 +117,10 @@ impl Refused {
             -13 => Refused::DamagedHead,
             -14 => Refused::Damaged,
             -15 => Refused::Hidden,
+            -16 => Refused::NoPolicy,
+            -17 => Refused::BadSignature,
+            -18 => Refused::NotSigned,
+            -19 => Refused::OtherOrigin,
             other => Refused::Other(other),
         }
     }
@@ -134,6 +147,10 @@ impl fmt::Display for Refused {
             Refused::DamagedHead => f.write_str("the head of the log's file is damaged"),
             Refused::Damaged => f.write_str("the file of the log is damaged"),
             Refused::Hidden => f.write_str("the tree of the map hides what is needed"),
+            Refused::NoPolicy => f.write_str("the text is no policy"),
+            Refused::BadSignature => f.write_str("a signature by a key does not hold"),
+            Refused::NotSigned => f.write_str("the checkpoint lacks signatures that are asked for"),
+            Refused::OtherOrigin => f.write_str("the checkpoint is of another origin"),
             // a newer library has words for it
             Refused::Other(answer) => {
                 // SAFETY: the library answers a text of its own for each number, which ends with a zero byte and never changes.

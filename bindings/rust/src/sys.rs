@@ -140,6 +140,51 @@ extern "C" {
         value_len: usize,
         nonce: *const u8,
     ) -> i32;
+    pub fn paxidore_checkpoint_open(
+        root: *mut u8,
+        size: *mut usize,
+        policy: *const u8,
+        policy_len: usize,
+        since: u64,
+        origin: *const u8,
+        origin_len: usize,
+        note: *const u8,
+        note_len: usize,
+    ) -> i32;
+    pub fn paxidore_receipt_open(
+        root: *mut u8,
+        size: *mut usize,
+        index: *mut usize,
+        policy: *const u8,
+        policy_len: usize,
+        since: u64,
+        origin: *const u8,
+        origin_len: usize,
+        entry: *const u8,
+        entry_len: usize,
+        receipt: *const u8,
+        receipt_len: usize,
+    ) -> i32;
+    pub fn paxidore_checkpoint_sign(
+        note: *mut u8,
+        note_room: usize,
+        note_len: *mut usize,
+        seed: *const u8,
+        name: *const u8,
+        name_len: usize,
+        origin: *const u8,
+        origin_len: usize,
+        root: *const u8,
+        size: usize,
+    ) -> i32;
+    pub fn paxidore_verifier_text(
+        text: *mut u8,
+        text_room: usize,
+        text_len: *mut usize,
+        name: *const u8,
+        name_len: usize,
+        key: *const u8,
+    ) -> i32;
     pub fn paxidore_ed25519_public_key(key: *mut u8, seed: *const u8);
     pub fn paxidore_ed25519_sign(
         signature: *mut u8,

@@ -12,30 +12,32 @@ use Rattle.signed_notes.specs.Checkpoints.{CheckpointParts}
 use Rattle.signed_notes.specs.Counting.{lists_key, is_one_key, keys_once, named_keys}
 use Rattle.signed_notes.specs.Keys.{KeyParts}
 use Rattle.signed_notes.specs.Notes.{NoteParts, SignatureParts}
-use Rattle.signed_notes.specs.Opening.{IsOpened, Policy}
+use Rattle.signed_notes.specs.Opening.{note_since, IsOpened, Policy}
 use Rattle.signed_notes.specs.Verifying.{is_named, IsMadeBy, IsTrueOf}
 
--- the keys that signed a note
+-- the keys that signed a note, from the policy's time on
 abbrev pub signers : Policy → NoteParts → List KeyParts
-signers p note = keys_once (named_keys p.witnesses note.signatures)
+signers p note = keys_once (named_keys p.witnesses (note_since p.since note).signatures)
 
 signers-own : (p : Policy) (note : NoteParts) → All (Contains p.witnesses) (signers p note)
 signers-own p note =
-    let named = λ (key : KeyParts). list_any (is_named key) note.signatures in
-    all-once (Contains p.witnesses) (named_keys p.witnesses note.signatures)
+    let signatures = (note_since p.since note).signatures in
+    let named = λ (key : KeyParts). list_any (is_named key) signatures in
+    all-once (Contains p.witnesses) (named_keys p.witnesses signatures)
     (All-filter named (Contains p.witnesses) p.witnesses (All-contains_itself p.witnesses))
 
 signers-named : (p : Policy) (note : NoteParts)
-    → All (λ key. list_any (is_named key) note.signatures ≡ true) (signers p note)
+    → All (λ key. list_any (is_named key) (note_since p.since note).signatures ≡ true) (signers p note)
 signers-named p note =
-    let named = λ (key : KeyParts). list_any (is_named key) note.signatures in
-    all-once (λ key. named key ≡ true) (named_keys p.witnesses note.signatures) (filter_passes named p.witnesses)
+    let signatures = (note_since p.since note).signatures in
+    let named = λ (key : KeyParts). list_any (is_named key) signatures in
+    all-once (λ key. named key ≡ true) (named_keys p.witnesses signatures) (filter_passes named p.witnesses)
 
 -- The keys that signed are a quorum.
 pub quorum-of : (p : Policy) (origin bytes : List ℕ) (c : CheckpointParts) (is : IsOpened p origin bytes c)
     → IsQuorum p (signers p is.note)
 quorum-of p origin bytes c is = record {
-  apart = once-apart (named_keys p.witnesses is.note.signatures);
+  apart = once-apart (named_keys p.witnesses (note_since p.since is.note).signatures);
   own = signers-own p is.note;
   enough = is.signed.enough;
 }
@@ -55,15 +57,16 @@ pub signed-head : (p : Policy) (origin bytes : List ℕ) (c : CheckpointParts) (
     → Contains honest.heads (head_of c)
 signed-head p origin bytes c is key honest there =
     let keys = signers p is.note in
+    let note = note_since p.since is.note in
     let found = Any-from_list_any (λ one. is_one_key one key) keys there in
     let one = found.1 in
-    let named = subst (λ k. list_any (is_named k) is.note.signatures ≡ true) found.3
+    let named = subst (λ k. list_any (is_named k) note.signatures ≡ true) found.3
     (signers-named p is.note found.0 one found.2) in
     let listed = subst (Contains p.witnesses) found.3 (signers-own p is.note found.0 one found.2) in
     let trues = is.signed.witnesses_true listed.0 one listed.1 in
-    let own = subst (λ k. All (IsTrueOf k is.note.text) is.note.signatures) listed.2 trues in
-    let line = Any-from_list_any (is_named one) is.note.signatures named in
-    let made = subst (λ s. IsTrueOf one is.note.text s) line.3 (own line.0 line.1 line.2) line.4 in
+    let own = subst (λ k. All (IsTrueOf k note.text) note.signatures) listed.2 trues in
+    let line = Any-from_list_any (is_named one) note.signatures named in
+    let made = subst (λ s. IsTrueOf one note.text s) line.3 (own line.0 line.1 line.2) line.4 in
     honest.only is.note.text line.1 c (made-by one key is.note.text line.1 found.4 made) is.checkpoint
 
 pub held-together : (origin : List ℕ) (p q : Policy) (first second : List ℕ) (a b : CheckpointParts)

@@ -1,15 +1,15 @@
 -- The text of a receipt is read as the receipt, and as nothing else.
-use Rattle.std.proofs.Common.{suc, ◌≡◌, ℕ, ◌+◌, ◌<◌, ◌≤◌, ◌^◌, List, [], ◌∷◌, ◌++◌, length, take, drop, Some, None, true, false, nat_eq, codes, refl, ap, sym, subst, ◌∙◌, append_assoc, append-nil, arith}
+use Rattle.std.proofs.Common.{suc, ◌≡◌, ℕ, ◌+◌, ◌<◌, ◌≤◌, ◌^◌, List, [], ◌∷◌, ◌++◌, length, drop, Some, None, true, false, nat_eq, codes, get_or, refl, ap, sym, subst, ◌∙◌, append_assoc, append-nil, arith}
 use Rattle.std.proofs.lemmas.Bool.Decides.{nat_tests}
 use Rattle.std.specs.List.{flat_map, AllByRecursion}
 use Rattle.std.specs.Fmt.{decimal}
-use Rattle.std.proofs.lemmas.List.{drop-drop, drop_at, length-append, length-drop, take-append-drop, take_at}
+use Rattle.std.proofs.lemmas.List.{drop-drop, drop_at, length-drop}
 use Rattle.base64.specs.Engines.{standard}
 use Rattle.base64.specs.GeneralPurpose.{encode_of}
 use Rattle.ark_base.specs.Digits.{AreBytes}
 use Rattle.ark_paths.specs.Pair.{Digest}
 use Rattle.decimals.specs.Decimals.{decimal_number}
-use Rattle.log_checkpoints.specs.Receipts.{digest_line, numbered, receipt_of, IsPath}
+use Rattle.log_checkpoints.specs.Receipts.{digest_line, numbered, IsPath}
 use Rattle.signed_notes.specs.Cutting.{cut}
 use Rattle.signed_notes.proofs.CheckpointTexts.{lacks-decimal, number-whole}
 use Rattle.signed_notes.proofs.Cuts.{cut_parts}
@@ -122,24 +122,14 @@ whole bytes line rest note n path is number lines =
     sym (cut-whole 10 bytes line rest is) ∙ ap (λ l. l ++ (10 ∷ rest)) (sym (number-whole line n number).digits_are)
     ∙ ap (λ l. decimal n ++ (10 ∷ l)) lines
 
--- what stands behind a title
-pub titled : (title bytes rest : List ℕ) (long : ℕ) → length title ≡ long → bytes ≡ title ++ rest
-    → (take long bytes ≡ title) × (long ≤ length bytes) × (drop long bytes ≡ rest)
-titled title bytes rest long is spelled = (
-  ap (take long) spelled ∙ take_at title rest long is,
-  omega (arith, ap length spelled, length-append title rest, is),
-  ap (drop long) spelled ∙ drop_at title rest long is,
-)
+-- Bytes that begin with others have one rest behind them.
+pub one-rest : (front a b : List ℕ) → front ++ a ≡ front ++ b → a ≡ b
+one-rest front a b same =
+    sym (drop_at front a (length front) refl) ∙ ap (drop (length front)) same ∙ drop_at front b (length front) refl
 
--- The bytes are a title and what stands behind it.
-pub joined : (title bytes rest : List ℕ) (long : ℕ) → take long bytes ≡ title → drop long bytes ≡ rest
-    → bytes ≡ title ++ rest
-joined title bytes rest long begins behind =
-    sym (take-append-drop long bytes) ∙ ap (λ l. l ++ drop long bytes) begins ∙ ap (λ l. title ++ l) behind
+pub never-none : {A : Type 0} (x : A) → Some x ≡ None → ⊥
+never-none x is = absurd cc
 
-abbrev pub title : List ℕ
-title = codes "c2sp.org/tlog-proof@v1\nindex "
-
-pub begins : (index : ℕ) (path : List Digest) (note bytes : List ℕ) → bytes ≡ receipt_of index path note
-    → (take 29 bytes ≡ title) × (29 ≤ length bytes) × (drop 29 bytes ≡ numbered index path note)
-begins index path note bytes is = titled title bytes (numbered index path note) 29 refl is
+-- A line of further bytes does not begin as that of an index.
+pub never-both : (a b : List ℕ) → codes "extra " ++ a ≡ codes "index " ++ b → ⊥
+never-both a b same = let first = ap (λ l. get_or l 0 0) same in absurd (omega (arith, first))

@@ -1,6 +1,6 @@
 //! What is proved of receipts and of quorums. Each function is one theorem: its contract states it, and its body does nothing.
 
-ghost use Rattle.std.specs.Prelude.{◌≡◌, ◌≤◌, ℕ, List};
+ghost use Rattle.std.specs.Prelude.{◌≡◌, ◌≤◌, ℕ, List, Option};
 ghost use Rattle.ark_paths.specs.Pair.{Digest};
 ghost use Rattle.log_checkpoints.specs.KeyQuorums.{QuorumsMeet};
 ghost use Rattle.log_checkpoints.specs.Receipts.{IsReceipt, IsReceiptOf, IsUnaccepted, LeadsElsewhere};
@@ -12,24 +12,27 @@ ghost use Rattle.signed_notes.specs.Checkpoints.{CheckpointParts};
 ghost use Rattle.signed_notes.specs.Opening.{IsOpened, Policy};
 ghost use Rattle.signed_notes.specs.declared.fault.Fault.TheVariants.{Memory};
 
-/// States that a receipt has one reading: bytes that are written of an index, a path and a note are read as these and as no others.
+/// States that a receipt has one reading: bytes that are written of an index, a path, a note and further bytes or none are read as
+/// these and as no others.
 pub fn receipts_have_one_reading()
-    ensures { (i j : ℕ) (p q : List Digest) (m n bytes : List ℕ)
-        → IsReceipt i p m bytes → IsReceipt j q n bytes → (i ≡ j) × (p ≡ q) × (m ≡ n) }
+    ensures { (e f : Option (List ℕ)) (i j : ℕ) (p q : List Digest) (m n bytes : List ℕ)
+        → IsReceipt e i p m bytes → IsReceipt f j q n bytes
+        → (i ≡ j) × (p ≡ q) × (m ≡ n) × (e ≡ f) }
 {}
 
 /// States that `verify_receipt` has one verdict on bytes: where they are a receipt of an entry, signed as a policy asks and with a path
-/// that is accepted, they are so of one size and root, their path leads nowhere else, and nothing but a lack of memory refuses
+/// that is accepted, they are so of one index, size and root, their path leads nowhere else, and nothing but a lack of memory refuses
 /// them. So what a keeper writes is accepted.
 pub fn receipts_have_one_verdict()
-    ensures one { (policy : Policy) (origin bytes entry : List ℕ) (m n : ℕ) (p q : Digest)
-        → IsReceiptOf policy origin bytes entry m p → IsReceiptOf policy origin bytes entry n q
-        → (n ≡ m) × (q ≡ p) }
-    ensures elsewhere { (policy : Policy) (origin bytes entry : List ℕ) (size : ℕ) (root : Digest)
-        → IsReceiptOf policy origin bytes entry size root
+    ensures one { (policy : Policy) (origin bytes entry : List ℕ) (i j m n : ℕ) (p q : Digest)
+        → IsReceiptOf policy origin bytes entry i m p → IsReceiptOf policy origin bytes entry j n q
+        → (j ≡ i) × (n ≡ m) × (q ≡ p) }
+    ensures elsewhere { (policy : Policy) (origin bytes entry : List ℕ) (index size : ℕ)
+        (root : Digest) → IsReceiptOf policy origin bytes entry index size root
         → LeadsElsewhere policy origin bytes entry → ⊥ }
-    ensures refused { (policy : Policy) (origin bytes entry : List ℕ) (size : ℕ) (root : Digest)
-        (why : ReceiptFault) → IsReceiptOf policy origin bytes entry size root
+    ensures refused { (policy : Policy) (origin bytes entry : List ℕ) (index size : ℕ)
+        (root : Digest) (why : ReceiptFault)
+        → IsReceiptOf policy origin bytes entry index size root
         → IsUnaccepted policy origin bytes why → why ≡ Note Memory }
 {}
 

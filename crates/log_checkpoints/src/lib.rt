@@ -17,7 +17,9 @@ mod witnessing;
 pub use adding::{Denial, OLD, Reply, Unanswered, answer_adding, write_reply};
 pub use laws::{quorums_of_keys_meet, receipts_have_one_reading, receipts_have_one_verdict};
 use log_store::{Disk, Stop, rewrite_head};
-pub use receipts::{Receipt, ReceiptFault, TITLE, read_receipt, verify_receipt, write_receipt};
+pub use receipts::{
+    Receipt, ReceiptFault, Shown, TITLE, read_receipt, verify_receipt, write_receipt,
+};
 use signed_notes::{Checkpoint, Fault, Signer, sign_checkpoint};
 use std::alloc::Global;
 pub use witnessing::{Unwitnessed, Witness, head_of, witness_checkpoint};

@@ -1,6 +1,6 @@
 //! Receipts: that an entry stands at an index of a log, as one file (C2SP tlog-proof).
 
-ghost use Rattle.std.specs.Prelude.{◌≡◌, ◌++◌, ◌∷◌, [], None, Some, IfErr, IfOk, IfSome, IsNone, MatchOption, OnOk, Ok};
+ghost use Rattle.std.specs.Prelude.{◌≡◌, ◌++◌, ◌∷◌, [], None, Some, IfErr, IfOk, IfSome, IsNone, MatchOption, OnOk, Ok, option_map, vec_items};
 ghost use Rattle.std.specs.List.{flat_map};
 ghost use Rattle.base64.specs.Engines.{standard};
 ghost use Rattle.base64.specs.GeneralPurpose.{encode_of};
@@ -8,7 +8,7 @@ ghost use Rattle.ark_base.specs.Digits.{AreBytes};
 ghost use Rattle.ark_paths.specs.Pair.{Digest};
 ghost use Rattle.ark_trees.specs.Rfc6962.{entry_hash, node_of};
 ghost use Rattle.log_checkpoints.specs.declared.receipts.ReceiptFault.TheVariants.{Note};
-ghost use Rattle.log_checkpoints.specs.Receipts.{digest_line, receipt_of, AreNotNumbered, HaveNoPath, IsMisspelled, IsNumbered, IsPath, IsReceipt, IsReceiptOf, IsUnaccepted, IsUnread, LeadsElsewhere, ShowsEntry};
+ghost use Rattle.log_checkpoints.specs.Receipts.{digest_line, receipt_of, AreNotNumbered, BeginsOtherwise, HasBadExtra, HaveNoPath, IsBehindExtra, IsMisspelled, IsNumbered, IsPath, IsReceipt, IsReceiptOf, IsUnaccepted, IsUnread, LeadsElsewhere, ShowsEntry};
 ghost use Rattle.signed_notes.specs.Cutting.{cut};
 ghost use Rattle.signed_notes.specs.declared.fault.Fault.TheVariants.{Memory};
 ghost use Rattle.merkle_log.specs.Verdict.{inclusion_verdict};
@@ -23,8 +23,13 @@ use merkle_log::verify_inclusion_digest;
 use signed_notes::{Checkpoint, Fault, Policy, open_checkpoint};
 use std::alloc::{AllocError, Global};
 
-/// How a receipt begins, before its index.
-pub const TITLE: [u8; 29] = *b"c2sp.org/tlog-proof@v1\nindex ";
+/// How a receipt begins.
+pub const TITLE: [u8; 23] = *b"c2sp.org/tlog-proof@v1\n";
+
+// How the line of further bytes begins, and that of the index.
+const EXTRA: [u8; 6] = *b"extra ";
+
+const INDEX: [u8; 6] = *b"index ";
 
 /// Why a receipt is not accepted.
 #[derive(Drop)]
@@ -38,6 +43,8 @@ pub enum ReceiptFault {
 /// A receipt that was read.
 #[derive(Drop)]
 pub struct Receipt<'a> {
+    /// Further bytes, of which the log says what they mean.
+    pub extra: Option<Vec<u8>>,
     pub index: usize,
     /// The digests beside the way of the entry, from it up.
     pub path: Vec<[u8; 32]>,
@@ -57,14 +64,14 @@ fn push_path(alloc: Global, path: &[[u8; 32]], out: &mut Vec<u8>) -> Result<(), 
     Ok(())
 }
 
-/// Writes a receipt. The error is a lack of memory.
+/// Writes a receipt without further bytes. The error is a lack of memory.
 pub fn write_receipt(
     alloc: Global,
     index: usize,
     path: &[[u8; 32]],
     note: &[u8],
 ) -> Result<Vec<u8>, AllocError>
-    ensures { IfOk result (λ bytes. bytes.items ≡ receipt_of index path.now note.now) }
+    ensures { IfOk result (λ bytes. bytes.items ≡ receipt_of None index path.now note.now) }
 {
     let mut out = Vec::new(alloc);
     out.extend_from_slice(format!(in alloc;
@@ -74,6 +81,17 @@ pub fn write_receipt(
     out.push(b'\n')?;
     out.extend_from_slice(note)?;
     Ok(out)
+}
+
+// What stands behind some bytes, where they are at the front.
+fn after<'a>(front: &[u8], bytes: &'a [u8]) -> Option<&'a [u8]>
+    ensures { MatchOption result (BeginsOtherwise front.now bytes.now)
+        (λ rest. bytes.now ≡ front.now ++ rest.now) }
+{
+    if bytes.len() < front.len() || bytes[..front.len()] != front[..] {
+        return None;
+    }
+    Some(&bytes[front.len()..])
 }
 
 // The line at the front of bytes, without its line feed, and what stands behind it.
@@ -158,19 +176,43 @@ pub(crate) fn numbered_in(alloc: Global, bytes: &[u8]) -> Result<Numbered<'_>, R
     Ok(Numbered { number, path, note })
 }
 
-/// Reads a receipt: what `write_receipt` writes of at most 64 digests, and nothing else.
+// Further bytes, if bytes begin with a line of them, and what stands behind it.
+fn extra_in(alloc: Global, bytes: &[u8]) -> Result<(Option<Vec<u8>>, &[u8]), ReceiptFault>
+    ensures read { IfOk result (λ read.
+        IsBehindExtra (option_map vec_items read.0) read.1.now bytes.now) }
+    ensures refused { IfErr result (IsMisspelled (HasBadExtra bytes.now)) }
+{
+    let Some(rest) = after(&EXTRA, bytes) else {
+        return Ok((None, bytes));
+    };
+    let Some((line, behind)) = cut_line(rest) else {
+        return Err(ReceiptFault::Spelling);
+    };
+    match STANDARD.decode(alloc, line) {
+        Ok(extra) => Ok((Some(extra), behind)),
+        Err(DecodeAllocError::OutOfMemory) => Err(ReceiptFault::Note(Fault::Memory)),
+        Err(DecodeAllocError::DecodeError(_)) => Err(ReceiptFault::Spelling),
+    }
+}
+
+/// Reads a receipt of at most 64 digests: what `write_receipt` writes, with or without a line of further bytes, and nothing else.
 ///
 /// Errors: `Spelling` for bytes that are none; `Memory`.
 pub fn read_receipt(alloc: Global, bytes: &[u8]) -> Result<Receipt<'_>, ReceiptFault>
-    ensures read { IfOk result (λ read.
-        IsReceipt read.index read.path.items read.note.now bytes.now) }
+    ensures read { IfOk result (λ read. IsReceipt (option_map vec_items read.extra)
+        read.index read.path.items read.note.now bytes.now) }
     ensures refused { IfErr result (IsUnread bytes.now) }
 {
-    if bytes.len() < TITLE.len() || bytes[..TITLE.len()] != TITLE[..] {
+    let Some(titled) = after(&TITLE, bytes) else {
         return Err(ReceiptFault::Spelling);
-    }
-    let Numbered { number, path, note } = numbered_in(alloc, &bytes[TITLE.len()..])?;
+    };
+    let (extra, indexed) = extra_in(alloc, titled)?;
+    let Some(rest) = after(&INDEX, indexed) else {
+        return Err(ReceiptFault::Spelling);
+    };
+    let Numbered { number, path, note } = numbered_in(alloc, rest)?;
     Ok(Receipt {
+        extra,
         index: number,
         path,
         note,
@@ -206,8 +248,16 @@ fn is_shown(
     }
 }
 
-/// Returns the size and the root of the log that a receipt shows an entry of; `None` where its path does not lead from the entry to
-/// the root. The checkpoint has to be signed as a policy asks, and to be of an origin.
+/// What a receipt shows: the index of its entry, in the log with this size and root.
+#[derive(Clone, Copy)]
+pub struct Shown {
+    pub index: usize,
+    pub size: usize,
+    pub root: [u8; 32],
+}
+
+/// Returns what a receipt shows of an entry; `None` where its path does not lead from the entry to the root. The checkpoint has to be
+/// signed as a policy asks, and to be of an origin.
 ///
 /// Errors, the first that applies: `Spelling`; those of `signed_notes::open_checkpoint`. `Memory` at any time.
 pub fn verify_receipt(
@@ -216,26 +266,35 @@ pub fn verify_receipt(
     entry: &[u8],
     origin: &str,
     policy: &Policy,
-) -> Result<Option<(usize, [u8; 32])>, ReceiptFault>
-    ensures shown { IfOk result (λ found. IfSome found (λ head.
-        IsReceiptOf (policy_parts policy.now) origin.now bytes.now entry.now head.0 head.1)) }
+) -> Result<Option<Shown>, ReceiptFault>
+    ensures shown { let policy = policy_parts policy.now in IfOk result (λ found.
+        IfSome found (λ is. IsReceiptOf policy origin.now bytes.now entry.now
+        is.index is.size is.root)) }
 
     // An index at or above the size is refused.
-    ensures bound { IfOk result (λ found. IfSome found (λ head.
-        ShowsEntry bytes.now entry.now head.0 head.1)) }
+    ensures bound { IfOk result (λ found. IfSome found (λ is.
+        ShowsEntry bytes.now entry.now is.index is.size is.root)) }
     ensures none { IfOk result (λ found. IsNone found
         → LeadsElsewhere (policy_parts policy.now) origin.now bytes.now entry.now) }
     ensures refused { IfErr result
         (IsUnaccepted (policy_parts policy.now) origin.now bytes.now) }
 {
-    let Receipt { index, path, note } = read_receipt(alloc, bytes)?;
+    let Receipt {
+        extra: _,
+        index,
+        path,
+        note,
+    } = read_receipt(alloc, bytes)?;
     let checkpoint = match open_checkpoint(alloc, note, origin, policy) {
         Ok(checkpoint) => checkpoint,
         Err(fault) => return Err(ReceiptFault::Note(fault)),
     };
     if is_shown(alloc, &checkpoint, index, entry, &path)? {
-        let root = checkpoint.root;
-        Ok(Some((checkpoint.size, root)))
+        Ok(Some(Shown {
+            index,
+            size: checkpoint.size,
+            root: checkpoint.root,
+        }))
     } else {
         Ok(None)
     }

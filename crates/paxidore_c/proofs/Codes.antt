@@ -13,7 +13,7 @@ use Rattle.paxidore_calls.specs.Answer.{GivesCode, all_shown, are_indexes, done_
 use Rattle.paxidore_calls.proofs.Answering.{refusal-no, zero-says}
 use Rattle.paxidore_calls.specs.Hashing.{Hashing, hashes_by, hashes_of, read_path, read_multi_path}
 use Rattle.paxidore_calls.specs.declared.refused.Refused.{Refused}
-use Rattle.paxidore_calls.specs.declared.refused.Refused.TheVariants.{Memory, Truncated, Invalid, Height, Size, Lengths, Count, Index, Room, Hidden, Other}
+use Rattle.paxidore_calls.specs.declared.refused.Refused.TheVariants.{Memory, Truncated, Invalid, Height, Size, Lengths, Count, Index, Room, Hidden, NoPolicy, BadSignature, Unsigned, OtherOrigin, Other}
 
 -- a call that answers 0 in 32 bits answers 0
 pub done-zero : {A : Type 0} (outcome : Result A Refused) (code : ℤ) → GivesCode (done_code outcome) code → to_z w32
@@ -37,6 +37,10 @@ verdict-fits (Err Count) = refl
 verdict-fits (Err Index) = refl
 verdict-fits (Err Room) = refl
 verdict-fits (Err Hidden) = refl
+verdict-fits (Err NoPolicy) = refl
+verdict-fits (Err BadSignature) = refl
+verdict-fits (Err Unsigned) = refl
+verdict-fits (Err OtherOrigin) = refl
 verdict-fits (Err Other) = refl
 
 results-same : (leaves : Result (List (List ℕ)) Refused) → results_of (λ leaf. leaf) leaves ≡ leaves

@@ -14,6 +14,7 @@ pub mod kept_trees;
 pub mod log;
 pub mod log_keeper;
 pub mod map;
+pub mod notes;
 pub mod poseidon;
 pub mod poseidon_log;
 pub mod poseidon_log_kept;

@@ -3,7 +3,7 @@ use Rattle.std.proofs.Common.{◌≡◌, ℤ, pos, w32, to_z, of_z, Bool, true, 
 use Rattle.ark_base.specs.Outcome.{Outcome}
 use Rattle.paxidore_calls.specs.Answer.{refusal_code, refused_of, refusing, verdict_code}
 use Rattle.paxidore_calls.specs.declared.refused.Refused.{Refused}
-use Rattle.paxidore_calls.specs.declared.refused.Refused.TheVariants.{Memory, Truncated, Invalid, Height, Size, Lengths, Count, Index, Room, Hidden, Other}
+use Rattle.paxidore_calls.specs.declared.refused.Refused.TheVariants.{Memory, Truncated, Invalid, Height, Size, Lengths, Count, Index, Room, Hidden, NoPolicy, BadSignature, Unsigned, OtherOrigin, Other}
 
 -- no refusal says yes
 pub refusal-no : (refused : Refused) → to_z w32 (of_z w32 (refusal_code refused)) ≡ pos 0 → ⊥
@@ -17,6 +17,10 @@ refusal-no Count zero = cc
 refusal-no Index zero = cc
 refusal-no Room zero = cc
 refusal-no Hidden zero = cc
+refusal-no NoPolicy zero = cc
+refusal-no BadSignature zero = cc
+refusal-no Unsigned zero = cc
+refusal-no OtherOrigin zero = cc
 refusal-no Other zero = cc
 
 -- what an accepting verdict says, where the answer is 0

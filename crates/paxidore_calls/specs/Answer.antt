@@ -12,7 +12,7 @@ use Rattle.ark_paths.specs.Tree.{path_in}
 use Rattle.ark_merkle.specs.MultiProof.{multi_path_in}
 pub use Rattle.log_file.specs.Faults.{only_if}
 use Rattle.paxidore_calls.specs.declared.refused.Refused.{Refused}
-use Rattle.paxidore_calls.specs.declared.refused.Refused.TheVariants.{Memory, Truncated, Invalid, Height, Size, Lengths, Count, Index, Room, Hidden, Other}
+use Rattle.paxidore_calls.specs.declared.refused.Refused.TheVariants.{Memory, Truncated, Invalid, Height, Size, Lengths, Count, Index, Room, Hidden, NoPolicy, BadSignature, Unsigned, OtherOrigin, Other}
 use Rattle.paxidore_calls.specs.Cut.{parts_by}
 use Rattle.paxidore_calls.specs.Hashing.{Hashing, sha256_hashing, rfc6962_hashing, hashes_of, tree_over, bytes_of_path, read_path, bytes_of_multi_path, read_multi_path}
 
@@ -30,6 +30,10 @@ refusal_code Count = negsuc 6
 refusal_code Index = negsuc 7
 refusal_code Room = negsuc 8
 refusal_code Hidden = negsuc 14
+refusal_code NoPolicy = negsuc 15
+refusal_code BadSignature = negsuc 16
+refusal_code Unsigned = negsuc 17
+refusal_code OtherOrigin = negsuc 18
 refusal_code Other = negsuc 98
 
 -- a refusal of the library, where the size of the tree is one

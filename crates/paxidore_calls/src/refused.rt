@@ -33,6 +33,14 @@ pub enum Refused {
     Room,
     /// A tree hides what a call on its map needs.
     Hidden,
+    /// A text is no policy.
+    NoPolicy,
+    /// A signature that names a key is none by it.
+    BadSignature,
+    /// The log did not sign a note, or too few keys of witnesses did.
+    Unsigned,
+    /// A checkpoint is of another origin.
+    OtherOrigin,
     /// A refusal that no hash of this library gives.
     Other,
 }
@@ -53,6 +61,10 @@ impl Refused {
             Refused::Index => -8,
             Refused::Room => -9,
             Refused::Hidden => -15,
+            Refused::NoPolicy => -16,
+            Refused::BadSignature => -17,
+            Refused::Unsigned => -18,
+            Refused::OtherOrigin => -19,
             Refused::Other => -99,
         }
     }

@@ -1,6 +1,5 @@
 //! Keys, and checkpoints that are signed and verified.
 
-use crate::aging::lately_signed;
 use crate::file_disk::FileDisk;
 use crate::reading::key_file_bytes;
 use crate::stop::{Stop, StopAt, placed};
@@ -109,21 +108,14 @@ pub fn verifier(alloc: Global, words: &[Vec<u8>], key: Word) -> Result<Verifier<
     }
 }
 
-/// Returns the size and the root that a checkpoint states, where it is signed as a policy asks and its origin is this one. What witnesses
-/// signed before a time counts for nothing, where one is named.
+/// Returns the size and the root that a checkpoint states, where it is signed as a policy asks and its origin is this one.
 pub fn opened(
     alloc: Global,
     policy: &Policy,
-    since: Option<u64>,
     note: &[u8],
     origin: &str,
 ) -> Result<(usize, [u8; 32]), signed_notes::Fault> {
-    let Some(since) = since else {
-        let Checkpoint { size, root, .. } = open_checkpoint(alloc, note, origin, policy)?;
-        return Ok((size, root));
-    };
-    let late = lately_signed(alloc, note, policy.witnesses, since)?;
-    let Checkpoint { size, root, .. } = open_checkpoint(alloc, &late, origin, policy)?;
+    let Checkpoint { size, root, .. } = open_checkpoint(alloc, note, origin, policy)?;
     Ok((size, root))
 }
 
@@ -143,6 +135,9 @@ pub fn reason(fault: signed_notes::Fault) -> &'static str {
         signed_notes::Fault::Short => "a signature of the note is empty",
         signed_notes::Fault::Key => "the key is none",
         signed_notes::Fault::Algorithm => "the key is of another algorithm",
+        signed_notes::Fault::Ecdsa => "the key is of ECDSA, where Ed25519 is read alone",
+        signed_notes::Fault::TreeHead =>
+            "the key is of tree heads of RFC 6962, where Ed25519 is read alone",
         signed_notes::Fault::KeyHash => "the key has another hash",
         signed_notes::Fault::BadSignature => "a signature by the key does not hold",
         signed_notes::Fault::UnknownKey => "the key did not sign the note",

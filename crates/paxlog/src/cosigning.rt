@@ -1,6 +1,5 @@
 //! Cosignatures of a folder's checkpoint, which witnesses sent apart.
 
-use crate::aging::lately_signed;
 use crate::followers::{Source, checkpoint_name, stated_by_note, write_note};
 use crate::reading::{if_found, note_bytes};
 use crate::stop::{Stop, StopAt, placed};
@@ -8,75 +7,19 @@ use crate::words::name_of_word;
 use crate::writing::locked_folder;
 use log_tiles::Head;
 use paxlog_run::request::Word;
-use signed_notes::{Note, Policy, Signature, Verified, Verifier, read, verify, write};
+use signed_notes::{Note, Policy, join_signatures, read};
 use std::alloc::Global;
 
-/// Returns whether a signature names one of these keys.
-pub fn is_of_any(keys: &[Verifier], signature: &Signature) -> bool {
-    for key in keys {
-        if key.name == signature.name && key.hash() == signature.hash {
-            return true;
-        }
-    }
-    false
-}
-
-// Whether signatures have one that names the same key.
-fn have_one_like(signatures: &[Signature], signature: &Signature) -> bool {
-    for own in signatures {
-        if own.name == signature.name && own.hash == signature.hash {
-            return true;
-        }
-    }
-    false
-}
-
-// The note with the signatures by these witnesses that another note of the same text has. That of the other counts where both have one by
-// a key.
+// The note with the cosignatures of another one, by the witnesses of a policy and not before its time.
 fn with_cosignatures(
     alloc: Global,
     note: &[u8],
     other: &[u8],
-    witnesses: &[Verifier],
+    policy: &Policy,
 ) -> Result<Vec<u8>, Stop> {
-    let Note {
-        text,
-        signatures: own,
-    } = read(alloc, note)?;
-    let Verified {
-        note: Note {
-            text: of_other,
-            signatures: more,
-        },
-        accepted: _,
-    } = verify(alloc, other, witnesses)?;
-    if text != of_other {
-        return Err(Stop::OtherCheckpoint);
-    }
-    let mut fresh = Vec::new(alloc);
-    for signature in more {
-        if is_of_any(witnesses, &signature) {
-            fresh.push(signature)?;
-        }
-    }
-    let mut signatures = Vec::new(alloc);
-    for signature in own {
-        if !have_one_like(&fresh, &signature) {
-            signatures.push(signature)?;
-        }
-    }
-    for signature in fresh {
-        signatures.push(signature)?;
-    }
-    Ok(write(alloc, text, &signatures)?)
-}
-
-// The note of a file, with the cosignatures that are not too old.
-fn late_note(rt: &HostRuntime, from: &Source, path: &str) -> Result<Vec<u8>, Stop> {
-    let note = note_bytes(rt, path)?;
-    match from.since {
-        Some(since) => Ok(lately_signed(rt.alloc(), &note, from.policy.witnesses, since)?),
-        None => Ok(note),
+    match join_signatures(alloc, note, other, policy.witnesses, policy.since)? {
+        Some(joined) => Ok(joined),
+        None => Err(Stop::OtherCheckpoint),
     }
 }
 
@@ -95,14 +38,15 @@ pub fn cosign_in_folder(
     let mut note = placed(place, note_bytes(rt, path.as_str()))?;
     for file in files..words.len() {
         let name = name_of_word(words, Word { place: file })?;
-        let other = placed(file, late_note(rt, from, name.text))?;
-        let more = with_cosignatures(rt.alloc(), &note, &other, from.policy.witnesses);
+        let other = placed(file, note_bytes(rt, name.text))?;
+        let more = with_cosignatures(rt.alloc(), &note, &other, &from.policy);
         note = placed(file, more)?;
     }
     let by_log = Policy {
         log: from.policy.log,
         witnesses: &[],
         quorum: 0,
+        since: 0,
     };
     let head = placed(
         place,

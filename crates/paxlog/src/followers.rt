@@ -40,15 +40,9 @@ pub fn nothing() -> Head {
     }
 }
 
-// What a note states, where it is signed as a policy asks, by its witnesses since a time, if one is named.
-fn stated(
-    rt: &HostRuntime,
-    policy: &Policy,
-    since: Option<u64>,
-    note: &[u8],
-    origin: &str,
-) -> Result<Head, Stop> {
-    match opened(rt.alloc(), policy, since, note, origin) {
+// What a note states, where it is signed as a policy asks.
+fn stated(rt: &HostRuntime, policy: &Policy, note: &[u8], origin: &str) -> Result<Head, Stop> {
+    match opened(rt.alloc(), policy, note, origin) {
         Ok(stated) => {
             let (size, root) = (stated.0, stated.1);
             Ok(Head { size, root })
@@ -57,7 +51,8 @@ fn stated(
     }
 }
 
-/// Returns what the note of a file states, where it is signed as a policy asks; that the log had no entry, where there is no such file.
+/// Returns what the note of a file states, where it is signed as a policy asks, at whatever time; that the log had no entry, where there
+/// is no such file.
 pub fn stated_by_note(
     rt: &HostRuntime,
     policy: &Policy,
@@ -65,7 +60,11 @@ pub fn stated_by_note(
     origin: &str,
 ) -> Result<Head, Stop> {
     match if_found(note_bytes(rt, path))? {
-        Some(note) => stated(rt, policy, None, &note, origin),
+        Some(note) => {
+            let mut policy = *policy;
+            policy.since = 0;
+            stated(rt, &policy, &note, origin)
+        }
         None => Ok(nothing()),
     }
 }
@@ -82,6 +81,7 @@ pub fn stated_by_signer(
         log: signer.verifier(),
         witnesses: &[],
         quorum: 0,
+        since: 0,
     };
     stated_by_note(rt, &policy, path, origin.unwrap_or(signer.name))
 }
@@ -103,8 +103,6 @@ pub fn log_in_folder<'a>(
 pub struct Source<'a> {
     pub folder: Name<'a>,
     pub policy: Policy<'a>,
-    /// The time before which what a witness signed counts for nothing, in seconds since 1970.
-    pub since: Option<u64>,
     pub origin: &'a str,
 }
 
@@ -119,7 +117,7 @@ pub struct Published {
 pub fn read_checkpoint(rt: &HostRuntime, from: &Source) -> Result<Published, Stop> {
     let path = checkpoint_name(rt, from.folder.text)?;
     let note = note_bytes(rt, path.as_str())?;
-    let head = stated(rt, &from.policy, from.since, &note, from.origin)?;
+    let head = stated(rt, &from.policy, &note, from.origin)?;
     Ok(Published { note, head })
 }
 

@@ -1,7 +1,6 @@
 //! The command `paxlog`: a transparency log in a file.
 #![tactic(auto)]
 
-mod aging;
 mod appending;
 mod batches;
 mod checkpoints;

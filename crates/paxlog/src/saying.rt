@@ -5,7 +5,7 @@ use crate::complaints::{begin, reason};
 use crate::followers::Audited;
 use crate::stop::{Stop, StopAt};
 use crate::words::Name;
-use log_checkpoints::ReceiptFault;
+use log_checkpoints::{ReceiptFault, Shown};
 use log_file::fault::Fault;
 use log_store::Recovered;
 use log_tiles::Head;
@@ -94,12 +94,12 @@ pub fn say_checkpoint(
 /// Writes the size and the root of the log that a receipt shows an entry of, or why it is not accepted.
 pub fn say_receipt(
     rt: &HostRuntime,
-    found: Result<Option<(usize, [u8; 32])>, ReceiptFault>,
+    found: Result<Option<Shown>, ReceiptFault>,
 ) -> Result<u8, StopAt> {
     match found {
-        Ok(Some(stated)) => {
-            let root = stated.1;
-            say_root(rt, stated.0, &root)
+        Ok(Some(shown)) => {
+            let root = shown.root;
+            say_root(rt, shown.size, &root)
         }
         Ok(None) => say_verdict(rt, false),
         Err(ReceiptFault::Spelling) => {

@@ -1,21 +1,19 @@
 //! Commands about checkpoints, whose words say who has to sign them.
 
-use crate::aging::receipt_lately_signed;
 use crate::appending::bytes_of_file;
 use crate::cosigning::cosign_in_folder;
 use crate::followers::Source;
 use crate::needing::{needed_to_follow, needed_to_prove};
 use crate::replying::{replied, request_bytes};
 use crate::saying::{say, say_audited, say_checkpoint, say_head, say_receipt, say_verdict};
-use crate::signers::{By, policy_text, signers_of};
+use crate::signers::{policy_text, signers_of};
 use crate::stop::{StopAt, placed};
 use crate::words::{folder_name, name_of_word, origin_of};
 use crate::{checkpoints, followers};
-use log_checkpoints::{ReceiptFault, verify_receipt, write_receipt};
+use log_checkpoints::{verify_receipt, write_receipt};
 use paxlog_run::replies::line_of;
-use paxlog_run::request::{Entries, Keyed, Misuse, Needed, Signers, Site, Word};
+use paxlog_run::request::{Entries, Keyed, Needed, Signers, Site, Word};
 use signed_notes::Policy;
-use std::alloc::Global;
 
 /// What the checkpoint of a file states, where it is signed as is asked for.
 pub fn verify_checkpoint(
@@ -32,23 +30,8 @@ pub fn verify_checkpoint(
     let origin = origin.unwrap_or(by.file.log.name);
     say_checkpoint(
         rt,
-        checkpoints::opened(rt.alloc(), &by.policy(), by.since, &note, origin),
+        checkpoints::opened(rt.alloc(), &by.policy(), &note, origin),
     )
-}
-
-// What a receipt shows of an entry.
-fn shown_by(
-    alloc: Global,
-    receipt: &[u8],
-    entry: &[u8],
-    origin: &str,
-    by: &By,
-) -> Result<Option<(usize, [u8; 32])>, ReceiptFault> {
-    let Some(since) = by.since else {
-        return verify_receipt(alloc, receipt, entry, origin, &by.policy());
-    };
-    let late = receipt_lately_signed(alloc, receipt, &by.file.witnesses, since)?;
-    verify_receipt(alloc, &late, entry, origin, &by.policy())
 }
 
 /// What a receipt shows of an entry, where its checkpoint is signed as is asked for.
@@ -65,7 +48,10 @@ pub fn verify_receipt_command(
     let entry = bytes_of_file(rt, words, file)?;
     let receipt = bytes_of_file(rt, words, receipt)?;
     let origin = origin.unwrap_or(by.file.log.name);
-    say_receipt(rt, shown_by(rt.alloc(), &receipt, &entry, origin, &by))
+    say_receipt(
+        rt,
+        verify_receipt(rt.alloc(), &receipt, &entry, origin, &by.policy()),
+    )
 }
 
 // The folder of tiles that words name, who has to sign, and the origin.
@@ -73,14 +59,12 @@ fn source_of<'a>(
     words: &'a [Vec<u8>],
     site: &Site,
     policy: Policy<'a>,
-    since: Option<u64>,
 ) -> Result<Source<'a>, StopAt> {
     let origin = origin_of(words, site.origin)?;
     let folder = folder_name(words, site.folder)?;
     Ok(Source {
         folder,
         policy,
-        since,
         origin: origin.unwrap_or(policy.log.name),
     })
 }
@@ -89,7 +73,7 @@ fn source_of<'a>(
 pub fn audit_command(rt: &HostRuntime, words: &[Vec<u8>], site: &Site) -> Result<u8, StopAt> {
     let text = policy_text(rt, words, site.signers)?;
     let by = signers_of(rt, words, site.signers, &text)?;
-    let from = source_of(words, site, by.policy(), by.since)?;
+    let from = source_of(words, site, by.policy())?;
     match placed(from.folder.place, followers::audit_folder(rt, &from))? {
         Some(found) => say_audited(rt, &found),
         None => say_verdict(rt, false),
@@ -106,7 +90,7 @@ pub fn keep_command(
 ) -> Result<u8, StopAt> {
     let text = policy_text(rt, words, site.signers)?;
     let by = signers_of(rt, words, site.signers, &text)?;
-    let from = source_of(words, site, by.policy(), by.since)?;
+    let from = source_of(words, site, by.policy())?;
     say_head(
         rt,
         &followers::keep_in_folder(rt, &from, words, entries, first)?,
@@ -122,7 +106,7 @@ pub fn cosign_command(
 ) -> Result<u8, StopAt> {
     let text = policy_text(rt, words, site.signers)?;
     let by = signers_of(rt, words, site.signers, &text)?;
-    let from = source_of(words, site, by.policy(), by.since)?;
+    let from = source_of(words, site, by.policy())?;
     say_head(rt, &cosign_in_folder(rt, &from, words, files)?)
 }
 
@@ -135,7 +119,7 @@ pub fn needs(
 ) -> Result<u8, StopAt> {
     let text = policy_text(rt, words, site.signers)?;
     let by = signers_of(rt, words, site.signers, &text)?;
-    let from = source_of(words, site, by.policy(), by.since)?;
+    let from = source_of(words, site, by.policy())?;
     let names = match needed {
         Needed::State(state) => needed_to_follow(rt, &from, folder_name(words, state)?)?,
         Needed::Entry(index) => placed(from.folder.place, needed_to_prove(rt, &from, index))?,
@@ -147,7 +131,7 @@ pub fn needs(
 pub fn follow(rt: &HostRuntime, words: &[Vec<u8>], site: &Site, state: Word) -> Result<u8, StopAt> {
     let text = policy_text(rt, words, site.signers)?;
     let by = signers_of(rt, words, site.signers, &text)?;
-    let from = source_of(words, site, by.policy(), by.since)?;
+    let from = source_of(words, site, by.policy())?;
     let state = folder_name(words, state)?;
     say_head(rt, &followers::follow(rt, &from, state)?)
 }
@@ -162,7 +146,7 @@ pub fn witness(
 ) -> Result<u8, StopAt> {
     let text = policy_text(rt, words, site.signers)?;
     let by = signers_of(rt, words, site.signers, &text)?;
-    let from = source_of(words, site, by.policy(), by.since)?;
+    let from = source_of(words, site, by.policy())?;
     let state = folder_name(words, state)?;
     let key_file = name_of_word(words, key_file)?;
     say(rt, &followers::witness(rt, &from, state, key_file)?)
@@ -178,7 +162,7 @@ pub fn tile_proof(
 ) -> Result<u8, StopAt> {
     let text = policy_text(rt, words, site.signers)?;
     let by = signers_of(rt, words, site.signers, &text)?;
-    let from = source_of(words, site, by.policy(), by.since)?;
+    let from = source_of(words, site, by.policy())?;
     let proof = placed(
         from.folder.place,
         followers::prove_in_folder(rt, &from, index),
@@ -202,9 +186,6 @@ pub fn witness_reply(
     let origin = origin_of(words, keyed.origin)?;
     let text = policy_text(rt, words, signers)?;
     let by = signers_of(rt, words, signers, &text)?;
-    if by.since.is_some() {
-        return Err(StopAt::from(Misuse::TooMany));
-    }
     let state = folder_name(words, state)?;
     let key_file = name_of_word(words, keyed.key_file)?;
     let request = request_bytes(rt)?;

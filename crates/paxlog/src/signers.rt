@@ -24,17 +24,19 @@ pub fn policy_text(
     placed(name.place, note_bytes(rt, name.text))
 }
 
-/// Who has to sign, and the time, in seconds since 1970, before which what a witness signed counts for nothing.
+/// Who has to sign, and the time, in seconds since 1970, from which on a witness has to have signed.
 #[derive(Drop)]
 pub struct By<'a> {
     pub file: PolicyFile<'a>,
-    pub since: Option<u64>,
+    pub since: u64,
 }
 
 impl<'a> By<'a> {
     /// Returns the policy.
     pub fn policy(&self) -> Policy<'_> {
-        self.file.policy()
+        let mut policy = self.file.policy();
+        policy.since = self.since;
+        policy
     }
 }
 
@@ -69,15 +71,15 @@ pub fn signers_of<'a>(
                 witnesses: Vec::new(alloc),
                 quorum: 0,
             },
-            since: None,
+            since: 0,
         }),
         Signers::Policy(file) => Ok(By {
             file: policy_in(alloc, file, text)?,
-            since: None,
+            since: 0,
         }),
         Signers::Lately { policy, seconds } => Ok(By {
             file: policy_in(alloc, policy, text)?,
-            since: Some(seconds_ago(rt, words, seconds)?),
+            since: seconds_ago(rt, words, seconds)?,
         }),
     }
 }

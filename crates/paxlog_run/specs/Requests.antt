@@ -1,5 +1,5 @@
 -- What the words behind the command's name ask for.
-use Rattle.std.specs.Prelude.{ℕ, ◌+◌, ◌-◌, ◌==◌, ◌||◌, ◌&&◌, is_none, nat_lt, not, get_or, length, List, [], Bool, true, false, Option, Some, None, Ok, Err, codes}
+use Rattle.std.specs.Prelude.{ℕ, ◌+◌, ◌-◌, ◌==◌, ◌||◌, ◌&&◌, is_none, nat_lt, not, get_or, length, List, [], if◌then◌else◌, Bool, true, false, Option, Some, None, Ok, Err, codes}
 use Rattle.std.specs.Str.{bytes_eq}
 use Rattle.paxlog_run.specs.declared.request.Word.{Word}
 use Rattle.paxlog_run.specs.declared.request.Request.{Request}

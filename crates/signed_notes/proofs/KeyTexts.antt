@@ -10,7 +10,7 @@ use Rattle.base64.proofs.EngineFacts.{decode_of-encode_of}
 use Rattle.hex.specs.Hex.{encode_lower}
 use Rattle.signed_notes.specs.Cutting.{cut}
 use Rattle.signed_notes.specs.Faults.{or_fault}
-use Rattle.signed_notes.specs.Keys.{IsNoteKey, KeyParts, Spelled, checked, key_hash, key_text, read_key, spelled_behind, spelled_by, spelled_from, spelled_in}
+use Rattle.signed_notes.specs.Keys.{IsNoteKey, KeyParts, Spelled, algorithm_fault, checked, key_hash, key_text, read_key, spelled_behind, spelled_by, spelled_from, spelled_in}
 use Rattle.signed_notes.specs.Notes.{is_name}
 use Rattle.signed_notes.specs.Reading.{bytes_in}
 use Rattle.signed_notes.specs.declared.fault.Fault.TheVariants.{Algorithm, Key, KeyHash, Name}
@@ -46,7 +46,7 @@ record IsSpelled (is_algorithm : ℕ → Bool) (public : List ℕ → List ℕ) 
 checked-key : (is_algorithm : ℕ → Bool) (public : List ℕ → List ℕ) (s : Spelled) (key : KeyParts)
     → checked is_algorithm public s ≡ Ok key → IsSpelled is_algorithm public s key
 checked-key is_algorithm public s key e =
-    let algorithm_is = only_if-ok (is_algorithm s.algorithm) Algorithm _ key e in
+    let algorithm_is = only_if-ok (is_algorithm s.algorithm) (algorithm_fault Algorithm s.algorithm) _ key e in
     let own = encode_lower (key_hash s.name s.algorithm (public s.bytes)) in
     let hash_is = only_if-ok (bytes_eq s.hash own) KeyHash _ key algorithm_is.1 in
     let built : KeyParts = record { name = s.name; algorithm = s.algorithm; bytes = s.bytes } in
@@ -87,7 +87,7 @@ spelled-text text s are e =
     let named = only_if-ok (is_name name) Name (bytes_in word >>= spelled_by name hash) s second.2 in
     let read = bind-ok (bytes_in word) (spelled_by name hash) s named.1 in
     let bytes = read.0 in
-    let sized = only_if-ok (length bytes == 33) Key _ s read.2 in
+    let sized = only_if-ok (length bytes == 33) (algorithm_fault Key (get_or bytes 0 0)) _ s read.2 in
     let long : length bytes ≡ 33 = eqb-true (length bytes) 33 sized.0 in
     let rest_are : IsBytes (43 ∷ rest) = back_bytes name (43 ∷ rest) (subst IsBytes (sym whole) are) in
     let word_are : IsBytes (43 ∷ word) =

@@ -10,5 +10,6 @@ pub mod CheckpointTexts
 pub mod Cosigning
 pub mod Counted
 pub mod Opened
+pub mod Joined
 pub mod Known
 mod Pieces

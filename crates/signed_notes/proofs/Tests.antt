@@ -50,6 +50,17 @@ pub filter-skips : {A : Type 0} (p : A → Bool) (x : A) (xs : List A) → p x �
     → filter p (x ∷ xs) ≡ filter p xs
 filter-skips p x xs e = rw (e) refl
 
+-- what is left of values is what is left of what they are seen as
+pub filter-seen : {A B : Type 0} (f : A → B) (p : B → Bool) (xs : List A)
+    → map f (filter (λ x. p (f x)) xs) ≡ filter p (map f xs)
+filter-seen f p [] = refl
+filter-seen f p (x ∷ xs) = by_test (p (f x)) refl (filter-seen f p xs)
+  where
+    by_test : (t : Bool) → p (f x) ≡ t → map f (filter (λ y. p (f y)) xs) ≡ filter p (map f xs)
+        → map f (filter (λ y. p (f y)) (x ∷ xs)) ≡ filter p (f x ∷ map f xs)
+    by_test true e rest = rw (e) (ap (λ ys. f x ∷ ys) rest)
+    by_test false e rest = rw (e) rest
+
 pub nothing-long : {A : Type 0} (xs : List A) → length xs ≡ 0 → xs ≡ []
 nothing-long [] e = refl
 nothing-long (x ∷ xs) e = absurd (omega (arith, e))

@@ -1,7 +1,6 @@
--- Keys of notes as text: of verifiers `NAME+HASH+KEY`, of signers the same behind `PRIVATE+KEY+`. HASH is eight
--- digits in
--- hexadecimal, KEY the Base64 of the algorithm's byte and of the key, or of the seed that it is made from.
-use Rattle.std.specs.Prelude.{◌≡◌, ℕ, ◌==◌, ◌||◌, Bool, true, List, ◌∷◌, ◌++◌, codes, length, take, drop, get_or, Result, Ok}
+-- Keys of notes as text: of verifiers `NAME+HASH+KEY`, of signers the same behind `PRIVATE+KEY+`. HASH is eight digits
+-- in hexadecimal, KEY the Base64 of the algorithm's byte and of the key, or of the seed that it is made from.
+use Rattle.std.specs.Prelude.{◌≡◌, ℕ, ◌==◌, ◌||◌, Bool, true, List, ◌∷◌, ◌++◌, codes, if◌then◌else◌, length, take, drop, get_or, Result, Ok}
 use Rattle.std.specs.Str.{bytes_eq}
 use Rattle.ark_base.specs.Outcome.{◌>>=◌}
 use Rattle.base64.specs.GeneralPurpose.{encode_of}
@@ -14,7 +13,7 @@ use Rattle.signed_notes.specs.Faults.{only_where, or_fault}
 use Rattle.signed_notes.specs.Notes.{is_name}
 use Rattle.signed_notes.specs.Reading.{bytes_in}
 use Rattle.signed_notes.specs.declared.fault.Fault.{Fault}
-use Rattle.signed_notes.specs.declared.fault.Fault.TheVariants.{Algorithm, Key, KeyHash, Name}
+use Rattle.signed_notes.specs.declared.fault.Fault.TheVariants.{Algorithm, Ecdsa, Key, KeyHash, Name, TreeHead}
 
 -- a key: its name, the byte of its algorithm, and the 32 bytes of the key or of the seed that it is made from
 pub record KeyParts : Type 0 where
@@ -59,9 +58,13 @@ pub record Spelled : Type 0 where
   pub algorithm : ℕ
   pub bytes : List ℕ
 
+-- why a key is refused whose algorithm is not known, or not asked for: two others of notes have names
+abbrev pub algorithm_fault : Fault → ℕ → Fault
+algorithm_fault other byte = if byte == 2 then Ecdsa else if byte == 5 then TreeHead else other
+
 -- the key of a name, the digits of its hash, and the bytes that Base64 spelled
 abbrev pub spelled_by : List ℕ → List ℕ → List ℕ → Result Spelled Fault
-spelled_by name hash bytes = only_where (length bytes == 33) Key
+spelled_by name hash bytes = only_where (length bytes == 33) (algorithm_fault Key (get_or bytes 0 0))
     (Ok (record { name = name; hash = hash; algorithm = get_or bytes 0 0; bytes = drop 1 bytes }))
 
 -- the key of a name, and of two parts behind it
@@ -79,7 +82,7 @@ spelled_in text = or_fault (cut 43 text) Key >>= spelled_from
 -- a key of one of some algorithms, whose hash is its own
 abbrev pub checked : (ℕ → Bool) → (List ℕ → List ℕ) → Spelled → Result KeyParts Fault
 checked is_algorithm public s =
-    only_where (is_algorithm s.algorithm) Algorithm
+    only_where (is_algorithm s.algorithm) (algorithm_fault Algorithm s.algorithm)
     (only_where (bytes_eq s.hash (encode_lower (key_hash s.name s.algorithm (public s.bytes)))) KeyHash
     (Ok (record { name = s.name; algorithm = s.algorithm; bytes = s.bytes })))
 

@@ -8,6 +8,7 @@ pub mod Cosignatures
 pub mod Verifying
 pub mod Counting
 pub mod Opening
+pub mod Joining
 pub mod Checkpoints
 pub mod Views
 pub mod PolicyFiles

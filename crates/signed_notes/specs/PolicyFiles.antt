@@ -185,7 +185,12 @@ with_lines before count (line ∷ lines) =
 abbrev pub policy_by : List KeyParts → Option KeyParts → Option ℕ → Result Policy PolicyFault
 policy_by witnesses None quorum = Err NoLog
 policy_by witnesses (Some log) None = Err NoQuorum
-policy_by witnesses (Some log) (Some quorum) = Ok (record { log = log; witnesses = witnesses; quorum = quorum })
+policy_by witnesses (Some log) (Some quorum) = Ok (record {
+  log = log;
+  witnesses = witnesses;
+  quorum = quorum;
+  since = 0;
+})
 
 -- the policy that lines say
 abbrev pub policy_of_lines : PolicyLines × ℕ → Result Policy PolicyFaultAt

@@ -35,10 +35,11 @@ lines_parts lines = record {
   witnesses = map verifier_parts lines.witnesses.items;
 }
 
--- the policy of a file
+-- the policy of a file, which takes signatures of any time
 abbrev pub file_parts : PolicyFile → Policy
 file_parts file = record {
   log = verifier_parts file.log;
   witnesses = map verifier_parts file.witnesses.items;
   quorum = file.quorum;
+  since = 0;
 }

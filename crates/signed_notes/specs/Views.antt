@@ -62,4 +62,5 @@ policy_parts p = record {
   log = verifier_parts p.log;
   witnesses = map verifier_parts p.witnesses.now;
   quorum = p.quorum;
+  since = p.since;
 }

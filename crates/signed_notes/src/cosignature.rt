@@ -3,7 +3,7 @@
 ghost use Rattle.std.specs.Prelude.{◌≡◌, length, map, vec_items, IfOk, IsOkUnless, string_bytes};
 ghost use Rattle.std.specs.Bool.{Decides};
 ghost use Rattle.std.specs.Int.{w64, from_be_bytes};
-ghost use Rattle.signed_notes.specs.Cosignatures.{cosigned, IsCosignature};
+ghost use Rattle.signed_notes.specs.Cosignatures.{cosigned, stated_time, IsCosignature};
 ghost use Rattle.signed_notes.specs.Faults.{NoteGivesBy};
 ghost use Rattle.signed_notes.specs.Verifying.{cosign, cosign_read, cosigned_by, naming, sign_checkpoint};
 ghost use Rattle.signed_notes.specs.Views.{checkpoint_parts, cosigner_parts, note_parts, parts, signer_parts, verifier_parts};
@@ -34,6 +34,17 @@ fn time_in(bytes: &[u8]) -> u64
     let mut eight = [0; 8];
     eight.copy_from_slice(bytes);
     u64::from_be_bytes(eight)
+}
+
+/// Returns the time that a signature states, in seconds since 1970, where it is as long as a cosignature; else 0.
+pub(crate) fn stated_time(bytes: &[u8]) -> u64
+    ensures { result ≡ stated_time bytes.now }
+{
+    if bytes.len() == 72 {
+        time_in(&bytes[..8])
+    } else {
+        0
+    }
 }
 
 // Whether bytes are a cosignature of a text.

@@ -32,6 +32,10 @@ pub enum Fault {
     Key,
     /// A key is of an algorithm that is not known, or not asked for.
     Algorithm,
+    /// A key is of ECDSA with SHA-256, whose byte is 2.
+    Ecdsa,
+    /// A key is of tree heads of RFC 6962, whose byte is 5.
+    TreeHead,
     /// The hash of a key is another, or is not eight digits in lower case.
     KeyHash,
     /// A signature that names a known key is none by it.

@@ -5,7 +5,7 @@ ghost use Rattle.std.specs.Str.{bytes_eq};
 ghost use Rattle.ed25519.specs.Signatures.{key_of};
 ghost use Rattle.hex.specs.Hex.{encode_lower};
 ghost use Rattle.signed_notes.specs.Faults.{NoteGivesBy};
-ghost use Rattle.signed_notes.specs.Keys.{as_it_stands, cosignature_byte, ed25519_byte, is_byte, is_known, key_hash, key_parts, key_text, private, public_parts, read_key, read_private, spelled_behind, spelled_by, spelled_in, write_key};
+ghost use Rattle.signed_notes.specs.Keys.{algorithm_fault, as_it_stands, cosignature_byte, ed25519_byte, is_byte, is_known, key_hash, key_parts, key_text, private, public_parts, read_key, read_private, spelled_behind, spelled_by, spelled_in, write_key};
 ghost use Rattle.signed_notes.specs.Verifying.{hash_of};
 ghost use Rattle.signed_notes.specs.Views.{algorithm_byte, cosigner_parts, seed_parts, signer_parts, key_spelled, verifier_parts};
 ghost use Rattle.signed_notes.specs.declared.fault.Fault.TheVariants.{Memory};
@@ -111,12 +111,29 @@ fn digits_of(hash: [u8; 4]) -> [u8; 8]
     digits
 }
 
+// Why a key is refused whose algorithm is not known, or not asked for.
+fn algorithm_fault(other: Fault, byte: u8) -> Fault
+    ensures { result ≡ algorithm_fault other byte }
+{
+    if byte == 2 {
+        Fault::Ecdsa
+    } else if byte == 5 {
+        Fault::TreeHead
+    } else {
+        other
+    }
+}
+
 // The key of a name, the digits of its hash, and the bytes that Base64 spelled.
 fn spelled_by<'a>(name: &'a str, hash: &'a [u8], decoded: &[u8]) -> Result<KeyText<'a>, Fault>
     ensures { NoteGivesBy key_spelled (spelled_by name.now hash.now decoded.now) result }
 {
     if decoded.len() != 33 {
-        return Err(Fault::Key);
+        let byte = match decoded.first() {
+            Some(byte) => *byte,
+            None => 0,
+        };
+        return Err(algorithm_fault(Fault::Key, byte));
     }
     let mut bytes = [0; 32];
     bytes.copy_from_slice(&decoded[1..]);
@@ -183,7 +200,7 @@ fn seed_in(alloc: Global, text: &[u8], algorithm: u8) -> Result<Signer<'_>, Faul
 {
     let key = spelled_in(alloc, text)?;
     if key.algorithm != algorithm {
-        return Err(Fault::Algorithm);
+        return Err(algorithm_fault(Fault::Algorithm, key.algorithm));
     }
     if !is_hash(&key, &public_key(&key.bytes)) {
         return Err(Fault::KeyHash);
@@ -252,13 +269,14 @@ impl<'a> Verifier<'a> {
     /// Reads the text of a key, `NAME+HASH+KEY`.
     ///
     /// Errors, the first that applies: `Key` without two plus signs; `Name`; `Base64`; `Key` for another length;
-    /// `Algorithm`; `KeyHash`. `Memory` at any time.
+    /// `Algorithm`, in whose place, and in that of another length, `Ecdsa` or `TreeHead` names the algorithm; `KeyHash`.
+    /// `Memory` at any time.
     pub fn read(alloc: Global, text: &'a [u8]) -> Result<Verifier<'a>, Fault>
         ensures { NoteGivesBy verifier_parts (read_key is_known as_it_stands text.now) result }
     {
         let key = spelled_in(alloc, text)?;
         let Some(algorithm) = algorithm_of(key.algorithm) else {
-            return Err(Fault::Algorithm);
+            return Err(algorithm_fault(Fault::Algorithm, key.algorithm));
         };
         if !is_hash(&key, &key.bytes) {
             return Err(Fault::KeyHash);

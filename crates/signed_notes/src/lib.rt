@@ -6,6 +6,7 @@ mod cosignature;
 mod counting;
 mod cutting;
 mod fault;
+mod joining;
 mod keys;
 mod laws;
 mod note;
@@ -20,6 +21,7 @@ mod writing;
 pub use checkpoint::Checkpoint;
 pub use cosignature::{cosign, cosignature_of, sign_checkpoint};
 pub use fault::Fault;
+pub use joining::join_signatures;
 pub use keys::{Algorithm, Cosigner, Signer, Verifier, key_hash};
 pub use laws::{
     checkpoints_are_read_back, checkpoints_have_one_spelling, keys_are_read_back, keys_count_once,

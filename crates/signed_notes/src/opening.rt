@@ -2,15 +2,16 @@
 
 ghost use Rattle.std.specs.Prelude.{◌≡◌, ◌⊎◌, ◌≤◌, IfOk, IfErr, OnOk, List, ℕ, map};
 ghost use Rattle.signed_notes.specs.Faults.{NoteGivesBy};
-ghost use Rattle.signed_notes.specs.Opening.{checkpoint_by, IsClosed, IsOpened, IsUnwitnessed, IsWitnessed};
-ghost use Rattle.signed_notes.specs.Views.{checkpoint_parts, note_parts, policy_parts};
+ghost use Rattle.signed_notes.specs.Opening.{checkpoint_by, note_since, signed_since, IsClosed, IsOpened, IsUnwitnessed, IsWitnessed};
+ghost use Rattle.signed_notes.specs.Views.{checkpoint_parts, note_parts, parts, policy_parts};
 ghost use Rattle.signed_notes.specs.declared.fault.Fault.TheVariants.{Memory};
 
 use crate::checkpoint::Checkpoint;
+use crate::cosignature::stated_time;
 use crate::counting::signing_keys;
 use crate::fault::Fault;
 use crate::keys::Verifier;
-use crate::note::{Note, read};
+use crate::note::{Note, Signature, read};
 use crate::verifying::any_by;
 use std::alloc::Global;
 
@@ -21,20 +22,37 @@ pub struct Policy<'a> {
     pub log: Verifier<'a>,
     pub witnesses: &'a [Verifier<'a>],
     pub quorum: usize,
+    /// The time, in seconds since 1970, from which on a witness has to have signed. What states an earlier one, or none,
+    /// is not looked at, unless it is 0.
+    pub since: u64,
+}
+
+/// Leaves the signatures that state a time from one on.
+pub(crate) fn keep_since(signatures: &mut Vec<Signature>, since: u64)
+    ensures { map parts signatures.new.items ≡ signed_since since (map parts signatures.old.items) }
+{
+    signatures.retain(|signature| stated_time(&signature.bytes) >= since);
 }
 
 // Refuses a note that is not signed as a policy asks.
-fn witnessed(alloc: Global, note: &Note, policy: &Policy) -> Result<(), Fault>
-    ensures signed { OnOk result (IsWitnessed (policy_parts policy.now) (note_parts note.now)) }
+fn witnessed(alloc: Global, note: Note, policy: &Policy) -> Result<(), Fault>
+    ensures signed { let policy = policy_parts policy.now in
+        OnOk result (IsWitnessed policy (note_parts note.entry)) }
     ensures refused { let policy = policy_parts policy.now in IfErr result (λ fault.
-        (fault ≡ Memory) ⊎ IsUnwitnessed policy (note_parts note.now) fault) }
+        (fault ≡ Memory) ⊎ IsUnwitnessed policy (note_parts note.entry) fault) }
 {
     match any_by(alloc, &policy.log, note.text, &note.signatures) {
         Ok(true) => (),
         Ok(false) => return Err(Fault::UnknownKey),
         Err(fault) => return Err(fault),
     }
-    match signing_keys(alloc, policy.witnesses, note) {
+    let Note {
+        text,
+        mut signatures,
+    } = note;
+    keep_since(&mut signatures, policy.since);
+    let late = Note { text, signatures };
+    match signing_keys(alloc, policy.witnesses, &late) {
         Ok(keys) if keys.len() >= policy.quorum => Ok(()),
         Ok(_) => Err(Fault::FewWitnesses),
         Err(fault) => Err(fault),
@@ -68,8 +86,9 @@ pub fn open_checkpoint<'a>(
         IfErr result (IsClosed policy origin.now bytes.now) }
 {
     let note = read(alloc, bytes)?;
-    match witnessed(alloc, &note, policy) {
-        Ok(()) => checkpoint_by(alloc, origin, note.text),
+    let text = note.text;
+    match witnessed(alloc, note, policy) {
+        Ok(()) => checkpoint_by(alloc, origin, text),
         Err(fault) => Err(fault),
     }
 }

@@ -24,7 +24,7 @@ pub struct PolicyFile<'a> {
 }
 
 impl<'a> PolicyFile<'a> {
-    /// Returns the policy that the file says.
+    /// Returns the policy that the file says: it takes signatures of any time.
     pub fn policy(&self) -> Policy<'_>
         ensures { policy_parts result ≡ file_parts self.now }
     {
@@ -32,6 +32,7 @@ impl<'a> PolicyFile<'a> {
             log: self.log,
             witnesses: &self.witnesses,
             quorum: self.quorum,
+            since: 0,
         }
     }
 }

@@ -2,8 +2,7 @@ use Rattle.log_checkpoints.proofs.OneReading.{never-elsewhere, never-unaccepted,
 use Rattle.log_checkpoints.proofs.laws.receipts_have_one_verdict.Goals as goal
 
 pub returns-clause-one : goal.returns-clause-one
-returns-clause-one c = λ policy origin bytes entry m n p q first second.
-    one-head policy origin bytes entry m n p q first second
+returns-clause-one c = one-head
 
 pub returns-clause-elsewhere : goal.returns-clause-elsewhere
 returns-clause-elsewhere c = never-elsewhere

@@ -1,4 +1,4 @@
-use Rattle.std.proofs.Common.{Ok, ap, refl, ◌∙◌}
+use Rattle.std.proofs.Common.{Ok, ap, option_map, refl, vec_items, ◌∙◌}
 use Rattle.log_checkpoints.proofs.OneReading.{shows}
 use Rattle.signed_notes.specs.Views.{checkpoint_parts, policy_parts}
 use Rattle.log_checkpoints.proofs.receipts.verify_receipt.Goals as goal
@@ -9,7 +9,7 @@ returns-then-branch-clause-shown c =
     let path = c.deref.ensures.value in
     let shown = c.in_ok-is_shown.ensures.shown ∙ ap Ok c.if-branch.true in
     record {
-      index = read.index;
+      extra = option_map vec_items read.extra;
       path = read.path.items;
       note = read.note.now;
       stated = checkpoint_parts c.in-Ok.checkpoint;
@@ -23,7 +23,8 @@ returns-then-branch-clause-shown c =
 pub returns-then-branch-clause-bound : goal.returns-then-branch-clause-bound
 returns-then-branch-clause-bound c =
     shows (policy_parts c.args.policy.now) c.args.origin.now c.args.bytes.now c.args.entry.now
-    c.in-Ok.checkpoint.size c.in-Ok.checkpoint.root (returns-then-branch-clause-shown c)
+    c.in_ok-index.field-0.index c.in-Ok.checkpoint.size c.in-Ok.checkpoint.root
+    (returns-then-branch-clause-shown c)
 
 pub returns-clause-none : goal.returns-clause-none
 returns-clause-none c none =
@@ -32,6 +33,7 @@ returns-clause-none c none =
     let shown = c.in_ok-is_shown.ensures.shown ∙ ap Ok c.if-branch.false in
     record {
       index = read.index;
+      extra = option_map vec_items read.extra;
       path = read.path.items;
       note = read.note.now;
       stated = checkpoint_parts c.in-Ok.checkpoint;
