@@ -16,7 +16,8 @@ Whoever has the root and the count checks them without the other leaves::
 leaves in a tree. ``Tree`` keeps the digests of one in memory or in a file. ``Log`` is a log of any size, in memory or in a file, with
 the checks for its clients. ``Map`` is a map with one root, in memory or in a file, with proofs of what it has and has not.
 ``Transcript`` is Poseidon's duplex sponge over a field. ``blake2s_commit`` commits to a value that is
-shown later. ``ed25519`` signs and verifies. ``notes`` has signed checkpoints and receipts. ``poseidon`` has circomlib's hash.
+shown later. ``ed25519`` signs and verifies. ``notes`` has signed checkpoints and receipts, and
+``follow`` follows a log over HTTP. ``poseidon`` has circomlib's hash.
 
 The library is found by the variable ``PAXIDORE_LIBRARY`` (a path), else beside this file, where a wheel has it, else as the
 system finds ``libpaxidore.so.1``. Where it is not there, or is older than this module, ``import paxidore`` raises
@@ -28,6 +29,7 @@ if not getattr(sys, "_is_gil_enabled", lambda: True)():
     raise ImportError("paxidore was not tested without Python's global lock: set PYTHON_GIL=1")
 
 from . import ed25519, notes, poseidon
+from ._follow import Fork, OldCheckpoint, WrongTiles, follow
 from ._library import (
     BadSignature,
     CountError,
@@ -66,6 +68,7 @@ __all__ = [
     "DamagedLog",
     "DamagedMap",
     "Field",
+    "Fork",
     "HeightError",
     "HiddenTree",
     "IndexBeyondSize",
@@ -77,6 +80,7 @@ __all__ = [
     "NoLog",
     "NoPolicy",
     "NotSigned",
+    "OldCheckpoint",
     "OtherOrigin",
     "OutOfMemory",
     "Refused",
@@ -87,11 +91,14 @@ __all__ = [
     "TranscriptError",
     "TruncatedProof",
     "Trees",
+    "WrongTiles",
     "blake2s",
     "blake2s_commit",
     "blake2s_opens",
     "cpu",
     "ed25519",
+    "follow",
+    "notes",
     "parameters_bytes",
     "poseidon",
     "ready_parameters",

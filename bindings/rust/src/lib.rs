@@ -22,6 +22,8 @@
 mod client;
 pub mod ed25519;
 #[cfg(feature = "std")]
+mod follow;
+#[cfg(feature = "std")]
 mod log;
 #[cfg(feature = "std")]
 mod log_file;
@@ -40,6 +42,8 @@ pub use client::Log;
 use core::error::Error;
 use core::ffi::CStr;
 use core::fmt;
+#[cfg(feature = "std")]
+pub use follow::{follow, FollowError};
 #[cfg(feature = "std")]
 pub use log::{Log, LogError};
 pub use map::Map;
