@@ -29,7 +29,7 @@ if not getattr(sys, "_is_gil_enabled", lambda: True)():
     raise ImportError("paxidore was not tested without Python's global lock: set PYTHON_GIL=1")
 
 from . import ed25519, notes, poseidon
-from ._follow import Fork, OldCheckpoint, WrongTiles, follow
+from ._follow import Fork, OldCheckpoint, WrongTiles, follow, prove_inclusion
 from ._library import (
     BadSignature,
     CountError,
@@ -101,6 +101,7 @@ __all__ = [
     "notes",
     "parameters_bytes",
     "poseidon",
+    "prove_inclusion",
     "ready_parameters",
     "rfc6962",
     "sha256",

@@ -1,4 +1,4 @@
-"""Following a log that publishes a checkpoint and tiles (C2SP tlog-tiles). ``paxidore.follow`` is the call of this module.
+"""Following a log that publishes a checkpoint and tiles (C2SP tlog-tiles): ``paxidore.follow``, ``paxidore.prove_inclusion``.
 
 What is read of the log is not believed: the state moves on only by a checkpoint that is signed as the policy asks, and by a proof that the
 library checks. How the proof is made of tiles is no part of that, so a fault in it refuses a log, and accepts none.
@@ -91,6 +91,19 @@ class _Tiles:
 
     def root(self, size: int) -> bytes:
         return self.node(0, size) if size else hashlib.sha256(b"").digest()
+
+    def inclusion(self, index: int) -> List[bytes]:
+        """The inclusion proof of an index, by RFC 6962, section 2.1.1."""
+        start, end, path = 0, self.size, []
+        while end - start > 1:
+            middle = start + _split(end - start)
+            if index < middle:
+                path.append(self.node(middle, end))
+                end = middle
+            else:
+                path.append(self.node(start, middle))
+                start = middle
+        return path[::-1]
 
     def consistency(self, old: int, start: int = 0, end: Optional[int] = None, whole: bool = True) -> List[bytes]:
         """The consistency proof from ``old`` entries, by RFC 6962, section 2.1.2."""
@@ -200,6 +213,15 @@ def _moved(fetch: _Fetch, policy: str, old_note: Optional[bytes], note: bytes, o
     if other == old.root or not Log.verify_consistency(other, old.size, head.root, head.size, proof):
         raise WrongTiles("the tiles do not lead to the root of the checkpoint")
     raise Fork(old_note, note, "%d %s %d %s %s" % (old.size, other.hex(), head.size, head.root.hex(), proof.hex()))
+
+
+def prove_inclusion(source: Union[str, _Fetch], head: Checkpoint, index: int, *, timeout: float = 30) -> bytes:
+    """The inclusion proof of an index in the log of a checkpoint, made of its tiles: what ``Log.verify_inclusion`` checks. Nothing of it is
+    believed before that says yes. ``source`` is as of ``follow``. Raises ``IndexError``, ``WrongTiles`` for a tile that ends early, ``OSError``."""
+    if not 0 <= index < head.size:
+        raise IndexError("no entry of a log of %d has the index %d" % (head.size, index))
+    fetch = source if callable(source) else _over_http(source, timeout)
+    return b"".join(_Tiles(fetch, head.size).inclusion(index))
 
 
 def follow(

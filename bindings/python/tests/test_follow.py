@@ -3,6 +3,7 @@ import hashlib
 import http.server
 import os
 import subprocess
+import sys
 import tempfile
 import threading
 import unittest
@@ -220,6 +221,54 @@ class Follows(unittest.TestCase):
             self.refused(BlockingIOError)
             self.refused(BlockingIOError, wait=0.1)
         self.assertEqual(self.follow().size, 5)
+
+    def test_proofs_of_entries(self):
+        log = Log()
+        for size in (1, 2, 7, 256, 257, 1000):
+            self.site.files = log.grow(size).site(size)
+            head = self.follow()
+            for index in {0, size // 3, size // 2, size - 1}:
+                path = paxidore.prove_inclusion(self.site.url, head, index)
+                self.assertTrue(paxidore.Log.verify_inclusion(head.root, size, index, b"entry %d" % index, path))
+            for index in (-1, size):
+                with self.assertRaises(IndexError):
+                    paxidore.prove_inclusion(self.site.url, head, index)
+
+    def test_a_checksum_database(self):
+        """The example gosum.py, over a database in the form of Go's."""
+        name = "sum.example.com"
+        records = [b"example.com/M%d v1.0.%d h1:x=\nexample.com/M%d v1.0.%d/go.mod h1:y=\n" % (i, i, i, i) for i in range(700)]
+        log = Log()
+        log.levels[0] = [sha(b"\0" + record) for record in records]
+        log.grow(len(records))
+        key = notes.verifier_text(name, paxidore.ed25519.public_key(SEED))
+
+        def publish(size):
+            note = notes.sign_checkpoint(SEED, name, log.root(size), size, origin="go.sum database tree")
+            files = {name.replace("tile/", "tile/8/", 1): data for name, data in log.site(size).items() if name != "checkpoint"}
+            files["latest"] = note
+            for i, record in enumerate(records[:size]):
+                files["lookup/example.com/!m%d@v1.0.%d" % (i, i)] = b"%d\n%s\n%s" % (i, record, note)
+            self.site.files = files
+
+        def ask(number, version=None):
+            words = ["--key", key, self.site.url, self.state, "example.com/M%d" % number, "v1.0.%d" % (number if version is None else version)]
+            example = os.path.join(os.path.dirname(os.path.dirname(os.path.abspath(__file__))), "examples", "gosum.py")
+            ran = subprocess.run([sys.executable, example, *words], stdout=subprocess.PIPE, stderr=subprocess.PIPE)
+            return ran.returncode, ran.stdout
+
+        for size in (300, 700):
+            publish(size)
+            for number in (0, 255, 299):
+                self.assertEqual(ask(number), (0, records[number]))
+        before = self.read(self.state)
+        self.site.files["lookup/example.com/!m7@v1.0.7"] = b"7\n" + records[8] + b"\n" + self.site.files["latest"]
+        self.assertEqual(ask(7), (1, b""))
+        self.site.files["lookup/example.com/!m7@v1.0.7"] = b"8\n" + records[8] + b"\n" + self.site.files["latest"]
+        self.assertEqual(ask(7), (1, b""))
+        publish(300)
+        self.assertEqual(ask(7), (1, b""))
+        self.assertEqual(self.read(self.state), before)
 
     @unittest.skipUnless("PAXLOG" in os.environ, "no program paxlog is named")
     def test_beside_paxlog(self):

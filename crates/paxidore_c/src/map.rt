@@ -144,7 +144,7 @@ pub extern "C" fn paxidore_map_root(alloc: Global, root: &mut [u8; 32], tree: &[
 }
 
 // The bytes of the proof of what a tree has at a key. Errors: those of `MapTree::from_bytes`; that the tree hides it; `OutOfMemory`.
-fn proof_of(alloc: Global, tree: &[u8], key: &[u8; 32]) -> Result<Vec<u8>, Error>
+fn key_proof_of(alloc: Global, tree: &[u8], key: &[u8; 32]) -> Result<Vec<u8>, Error>
     ensures answer { AnswersBy (λ bytes. bytes.items) (map_proof tree.now key.now) result }
     ensures accepted { IfOk result (λ bytes. IfOk (tree_of_bytes tree.now)
         (IsProvedBy key.now bytes.items)) }
@@ -162,7 +162,7 @@ fn proof_for(alloc: Global, tree: &[u8], key: &[u8; 32]) -> Result<Vec<u8>, Refu
     ensures accepted { IfOk result (λ bytes. IfOk (tree_of_bytes tree.now)
         (IsProvedBy key.now bytes.items)) }
 {
-    match proof_of(alloc, tree, key) {
+    match key_proof_of(alloc, tree, key) {
         Ok(bytes) => Ok(bytes),
         Err(error) => Err(refused_of(error)),
     }

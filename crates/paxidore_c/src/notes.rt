@@ -43,7 +43,7 @@ fn receipt_refused(fault: ReceiptFault) -> Refused
 }
 
 // The policy that a text says.
-fn policy_in(alloc: Global, text: &[u8]) -> Result<PolicyFile<'_>, Refused>
+fn policy_said(alloc: Global, text: &[u8]) -> Result<PolicyFile<'_>, Refused>
     ensures read { IfOk result (λ policy. read_policy text.now ≡ Ok (file_parts policy)) }
     ensures refused { IfErr result (λ refused.
         (asked : List ℕ) → AreNotAsked text.now asked refused) }
@@ -58,7 +58,7 @@ fn policy_in(alloc: Global, text: &[u8]) -> Result<PolicyFile<'_>, Refused>
 }
 
 // Bytes that are UTF-8, as a text.
-fn text_of(bytes: &[u8]) -> Result<&str, Refused>
+fn utf8_text(bytes: &[u8]) -> Result<&str, Refused>
     ensures text { IfOk result (λ text. (text.now ≡ bytes.now) × (is_utf8 bytes.now ≡ true)) }
     ensures refused { IfErr result (λ refused. (refused ≡ Invalid) × (is_utf8 bytes.now ≡ false)) }
 {
@@ -76,14 +76,14 @@ fn origin_asked<'a>(asked: &'a [u8], name: &'a str) -> Option<&'a str>
     if asked.is_empty() {
         return Some(name);
     }
-    match text_of(asked) {
+    match utf8_text(asked) {
         Ok(origin) => Some(origin),
         Err(_) => None,
     }
 }
 
 // What a note states, where it is signed as is asked.
-fn stated<'x>(
+fn head_stated<'x>(
     alloc: Global,
     policy: &'x [u8],
     since: u64,
@@ -94,7 +94,7 @@ fn stated<'x>(
         IsStated policy.now since origin.now note.now head.0 head.1) }
     ensures refused { IfErr result (IsNotStated policy.now since origin.now note.now) }
 {
-    let file = policy_in(alloc, policy)?;
+    let file = policy_said(alloc, policy)?;
     let Some(origin) = origin_asked(origin, file.log.name) else {
         return Err(Refused::OtherOrigin);
     };
@@ -130,7 +130,7 @@ pub extern "C" fn paxidore_checkpoint_open(
         ⊎ IsRefusedAs (IsNotStated policy.now since origin.now note.now) result }
     ensures kept { result ≢ pos 0 → (root.new ≡ root.old) × (size.new ≡ size.old) }
 {
-    match stated(alloc, policy, since, origin, note) {
+    match head_stated(alloc, policy, since, origin, note) {
         Ok(head) => {
             let digest = head.1;
             *size = head.0;
@@ -158,7 +158,7 @@ fn proved(
         → LeadsAway policy.now since origin.now entry.now receipt.now) }
     ensures refused { IfErr result (IsNotProved policy.now since origin.now receipt.now) }
 {
-    let file = policy_in(alloc, policy)?;
+    let file = policy_said(alloc, policy)?;
     let Some(origin) = origin_asked(origin, file.log.name) else {
         return Err(Refused::OtherOrigin);
     };
@@ -214,7 +214,7 @@ pub extern "C" fn paxidore_receipt_open(
 }
 
 // The note of a checkpoint that the key of a seed signs.
-fn signed(
+fn note_signed(
     alloc: Global,
     seed: &[u8; 32],
     name: &[u8],
@@ -225,7 +225,7 @@ fn signed(
     ensures { CallGivesBy vec_items (signed_checkpoint seed.now name.now origin.now root.now size)
         result }
 {
-    let (name, origin) = (text_of(name)?, text_of(origin)?);
+    let (name, origin) = (utf8_text(name)?, utf8_text(origin)?);
     let signer = Signer { name, seed: *seed };
     let checkpoint = Checkpoint {
         origin,
@@ -259,7 +259,7 @@ pub extern "C" fn paxidore_checkpoint_sign(
         note.old note.new note_len.old note_len.new result }
 {
     hand_over(
-        signed(alloc, seed, name, origin, root, size),
+        note_signed(alloc, seed, name, origin, root, size),
         note,
         note_len,
     )
@@ -270,7 +270,7 @@ fn verifier_text(alloc: Global, name: &[u8], key: &[u8; 32]) -> Result<Vec<u8>, 
     ensures { CallGivesBy vec_items (verifier_text name.now key.now) result }
 {
     let verifier = Verifier {
-        name: text_of(name)?,
+        name: utf8_text(name)?,
         algorithm: Algorithm::Ed25519,
         key: *key,
     };

@@ -4,7 +4,7 @@ use Rattle.merkle_map.specs.Bytes.{itself, tree_of_bytes}
 use Rattle.merkle_map.specs.KeyProof.{proof_seen, IsKeyProofAccepted}
 use Rattle.merkle_map.specs.ProofBytes.{proof_bytes}
 use Rattle.paxidore_c.proofs.MapLemmas.{proved-bytes}
-use Rattle.paxidore_c.proofs.map.proof_of.Goals as goal
+use Rattle.paxidore_c.proofs.map.key_proof_of.Goals as goal
 
 pub returns-clause-accepted : goal.returns-clause-accepted
 returns-clause-accepted c =
