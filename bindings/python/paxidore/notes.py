@@ -16,13 +16,11 @@ from .ed25519 import KEY_BYTES, SEED_BYTES, _of_length
 
 _uint64 = ctypes.c_uint64
 _count = ctypes.POINTER(_size)
-_open = _call("checkpoint_open", ctypes.c_int32, ctypes.c_void_p, _count, _bytes, _size, _uint64, _bytes, _size, _bytes, _size)
-_prove = _call(
-    "receipt_open", ctypes.c_int32, ctypes.c_void_p, _count, _count, _bytes, _size, _uint64, _bytes, _size, _bytes, _size, _bytes, _size
-)
-_sign = _call(
-    "checkpoint_sign", ctypes.c_int32, ctypes.c_void_p, _size, _count, _bytes, _bytes, _size, _bytes, _size, _bytes, _size
-)
+# a policy, a time and an origin
+_asked = (_bytes, _size, _uint64, _bytes, _size)
+_open = _call("checkpoint_open", ctypes.c_int32, ctypes.c_void_p, _count, *_asked, _bytes, _size)
+_prove = _call("receipt_open", ctypes.c_int32, ctypes.c_void_p, _count, _count, *_asked, _bytes, _size, _bytes, _size)
+_sign = _call("checkpoint_sign", ctypes.c_int32, ctypes.c_void_p, _size, _count, _bytes, _bytes, _size, _bytes, _size, _bytes, _size)
 _verifier = _call("verifier_text", ctypes.c_int32, ctypes.c_void_p, _size, _count, _bytes, _size, _bytes)
 
 

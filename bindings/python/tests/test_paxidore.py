@@ -378,7 +378,7 @@ class Calls(unittest.TestCase):
 
     def test_refusals_have_their_codes(self):
         codes = [kind.code for kind in _library._KINDS.values()]
-        self.assertEqual(sorted(codes), [*range(-15, -10), *range(-8, 0)])
+        self.assertEqual(sorted(codes), [*range(-19, -10), *range(-8, 0)])
         for code in codes + [-9, -10, -99]:
             self.assertEqual(_library._refusal(code).code, code)
         for code in (-9, -10, -99):

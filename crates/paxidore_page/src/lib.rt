@@ -1,16 +1,20 @@
-//! Checks of a log's proofs for a web page (RFC 9162, section 2.1). No call asks for memory, so that a module of WebAssembly needs
-//! nothing of its host but the memory in which the arguments stand.
+//! Checks of a log's proofs for a web page (RFC 9162, section 2.1), and of the signatures of its checkpoints (RFC 8032). No call asks for
+//! memory, so that a module of WebAssembly needs nothing of its host but the memory in which the arguments stand.
 #![tactic(auto)]
 
-ghost use Rattle.std.specs.Prelude.{◌≡◌, pos};
+ghost use Rattle.std.specs.Prelude.{◌≡◌, ◌⊎◌, pos};
 ghost use Rattle.ark_trees.specs.Rfc6962.{entry_hash, node_of};
+ghost use Rattle.ed25519.specs.Signatures.{IsSignature};
 ghost use Rattle.merkle_log.specs.Bind.{BindsDigest, BindsFront};
 ghost use Rattle.merkle_log.specs.Verdict.{consistency_verdict, inclusion_verdict};
 ghost use Rattle.paxidore_page.specs.Code.{TellsVerdict, answer_number};
+ghost use Rattle.sha2.specs.Sha256.{sha256};
 
 use ark_base::error::Error;
 use ark_trees::{LogHasher, digest_of_entry};
+use ed25519::verify;
 use merkle_log::{verify_consistency, verify_inclusion_digest};
+use sha2::{Digest, Sha256};
 use std::alloc::Global;
 
 // The number of an answer.
@@ -76,4 +80,29 @@ pub extern "C" fn paxidore_page_consistency(
     answer_number(verify_consistency(
         alloc, &LogHasher, old_size, old_root, new_size, new_root, proof,
     ))
+}
+
+/// Writes the SHA-256 of some bytes (FIPS 180-4).
+#[unsafe(no_mangle)]
+pub extern "C" fn paxidore_page_sha256(digest: &mut [u8; 32], input: &[u8])
+    ensures { digest.new ≡ sha256 input.now }
+{
+    *digest = Sha256::digest(input);
+}
+
+/// Returns whether it is a signature of Ed25519 of the message under the key (RFC 8032, section 5.1.7): 0 yes, 1 no.
+#[unsafe(no_mangle)]
+pub extern "C" fn paxidore_page_signature(
+    key: &[u8; 32],
+    message: &[u8],
+    signature: &[u8; 64],
+) -> i32
+    ensures answer { (result ≡ pos 0) ⊎ (result ≡ pos 1) }
+    ensures signs { result ≡ pos 0 → IsSignature key.now message.now signature.now }
+    ensures signs_not { result ≡ pos 1 → IsSignature key.now message.now signature.now → ⊥ }
+{
+    if verify(key, message, signature) {
+        return 0;
+    }
+    1
 }
