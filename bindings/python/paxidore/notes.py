@@ -9,6 +9,7 @@ A log states its size and its root in a checkpoint, which it signs. Who else has
     if shown is not None: ...  # the entry stands at shown.index of the log with shown.size entries
 """
 import ctypes
+import dataclasses
 from typing import Any, NamedTuple, Optional
 
 from ._library import DIGEST_BYTES, _bytes, _call, _digest, _exact, _refusal, _size, _word
@@ -31,7 +32,8 @@ class Checkpoint(NamedTuple):
     root: bytes
 
 
-class Shown(NamedTuple):
+@dataclasses.dataclass(frozen=True)
+class Shown:
     """What a receipt shows: at which index the entry stands, in the log with this size and root."""
 
     index: int

@@ -158,7 +158,7 @@ class Receipts(unittest.TestCase):
             for index, entry in enumerate(entries):
                 for extra in (None, b"", b"more bytes"):
                     receipt = receipt_of(index, path_of(index, digests), note, extra)
-                    self.assertEqual(notes.open_receipt(POLICY, entry, receipt, since=7), (index, size, root))
+                    self.assertEqual(notes.open_receipt(POLICY, entry, receipt, since=7), notes.Shown(index, size, root))
                 self.assertIsNone(notes.open_receipt(POLICY, entry + b"x", receipt))
                 self.assertIsNone(notes.open_receipt(POLICY, entry, receipt_of(index + size, path_of(index, digests), note)))
                 with self.assertRaises(paxidore.NotSigned):
