@@ -2,11 +2,13 @@
 import hashlib
 import http.server
 import os
+import shutil
 import subprocess
 import sys
 import tempfile
 import threading
 import unittest
+import urllib.request
 
 import paxidore
 from paxidore import notes
@@ -269,6 +271,26 @@ class Follows(unittest.TestCase):
         publish(300)
         self.assertEqual(ask(7), (1, b""))
         self.assertEqual(self.read(self.state), before)
+
+    @unittest.skipUnless(shutil.which("go") and os.path.isdir("/usr/share/gocode/src/golang.org/x/mod/sumdb"), "no Go with golang.org/x/mod")
+    def test_a_checksum_database_of_go(self):
+        """The example gosum.py, over a server of golang.org/x/mod/sumdb."""
+        top = os.path.dirname(os.path.dirname(os.path.dirname(os.path.abspath(__file__))))
+        go = {**os.environ, "GO111MODULE": "off", "GOPATH": "/usr/share/gocode", "GOFLAGS": ""}
+        program = self.folder + "/sumdb"
+        subprocess.run(["go", "build", "-o", program, top + "/go/sumdb.go"], env=go, cwd=self.folder, check=True)
+        with subprocess.Popen([program], stdout=subprocess.PIPE) as server:
+            self.addCleanup(server.kill)
+            key, address = server.stdout.readline().decode().split()
+            for size in (3, 300, 700):
+                for number in range(size):
+                    with urllib.request.urlopen("%s/lookup/example.com/!m%d@v1.0.0" % (address, number)) as answer:
+                        answer.read()
+                for number in (0, size // 2, size - 1):
+                    words = ["--key", key, address, self.state, "example.com/M%d" % number, "v1.0.0"]
+                    ran = subprocess.run([sys.executable, top + "/python/examples/gosum.py", *words], stdout=subprocess.PIPE, check=True)
+                    self.assertEqual(ran.stdout.count(b"example.com/M%d v1.0.0" % number), 2)
+            server.kill()
 
     @unittest.skipUnless("PAXLOG" in os.environ, "no program paxlog is named")
     def test_beside_paxlog(self):
