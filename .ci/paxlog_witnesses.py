@@ -50,8 +50,11 @@ def cosign_one_log(room):
     cosigned, last = set(), 0
     for turn in range(max(KILLS // 4, 8)):
         chosen = [DRAWS.choice(shown)[0] for _ in range(4)]
-        words = [("witness", folder, verifier, state, "--key", own) if DRAWS.randrange(4) else ("follow", folder, verifier, state) for folder in chosen]
-        running = [subprocess.Popen([PROGRAM, *each, "--wait", "5"], stdout=subprocess.PIPE, stderr=subprocess.DEVNULL) for each in words]
+        running = []
+        for folder in chosen:
+            command, more = ("witness", ["--key", own]) if DRAWS.randrange(4) else ("follow", [])
+            words = [PROGRAM, command, folder, verifier, state, *more, "--wait", "5"]
+            running.append(subprocess.Popen(words, stdout=subprocess.PIPE, stderr=subprocess.DEVNULL))
         time.sleep(DRAWS.random() * 0.02)
         for each in DRAWS.sample(running, DRAWS.randrange(5)):
             each.send_signal(signal.SIGKILL)
@@ -60,11 +63,13 @@ def cosign_one_log(room):
             if found is not None and found[0] > COMMON:
                 cosigned.add(log_of.get(found, -1))
         size = int(read(state).split(b"\n")[1])
-        check("turn %d: what is cosigned is of one log, and the state goes on" % turn, len(cosigned) < 2 and -1 not in cosigned and size >= last)
+        is_one = len(cosigned) < 2 and -1 not in cosigned
+        check("turn %d: what is cosigned is of one log, and the state goes on" % turn, is_one and size >= last)
         last = size
     # whatever was cosigned, the state is at it or behind it, and of that log
     if cosigned:
         head = read(state).split(b"\n")
         check("the state is of the log that was cosigned", log_of[int(head[1]), base64.b64decode(head[2])] in cosigned)
-    check("no state is left half written", sorted(name for name in os.listdir(here) if name.startswith("state")) in (["state", "state.lock"], ["state", "state.fork", "state.fork-proof", "state.lock"], ["state", "state.fork", "state.lock"]))
+    left = {name for name in os.listdir(here) if name.startswith("state")}
+    check("no state is left half written", left <= {"state", "state.lock", "state.fork", "state.fork-proof"})
     shutil.rmtree(here)

@@ -31,8 +31,8 @@ class WrongTiles(Exception):
 class Fork(Exception):
     """The log signed two checkpoints of which none continues the other.
 
-    ``old`` and ``new`` are their notes. Where their sizes differ, ``words`` are those of ``paxlog verify-consistency`` by which anyone checks
-    that the log of the new one has another root of the old size.
+    ``old`` and ``new`` are their notes. Where their sizes differ, ``words`` are those of ``paxlog verify-consistency``, by which
+    anyone checks that the log of the new one has another root of the old size.
     """
 
     def __init__(self, old: bytes, new: bytes, words: str = "") -> None:
@@ -216,8 +216,11 @@ def _moved(fetch: _Fetch, policy: str, old_note: Optional[bytes], note: bytes, o
 
 
 def prove_inclusion(source: Union[str, _Fetch], head: Checkpoint, index: int, *, timeout: float = 30) -> bytes:
-    """The inclusion proof of an index in the log of a checkpoint, made of its tiles: what ``Log.verify_inclusion`` checks. Nothing of it is
-    believed before that says yes. ``source`` is as of ``follow``. Raises ``IndexError``, ``WrongTiles`` for a tile that ends early, ``OSError``."""
+    """The inclusion proof of an index in the log of a checkpoint, made of its tiles: what ``Log.verify_inclusion`` checks.
+
+    Nothing of it is believed before that says yes. ``source`` is as of ``follow``. Raises ``IndexError``, ``WrongTiles`` for a tile of another
+    length, and ``OSError``.
+    """
     if not 0 <= index < head.size:
         raise IndexError("no entry of a log of %d has the index %d" % (head.size, index))
     fetch = source if callable(source) else _over_http(source, timeout)
@@ -236,13 +239,14 @@ def follow(
 ) -> Checkpoint:
     """Moves a follower's state on to the checkpoint that a log publishes, and returns what it states.
 
-    ``source`` is the log's address, below which ``checkpoint`` and ``tile/..`` are, or a function from such a name to its bytes, which raises
-    ``FileNotFoundError`` where there is none. ``state`` is a file with the last checkpoint that was accepted, as that of ``paxlog follow``; the
-    first one takes the log as it is. All that a state ever had is of one log: each accepted checkpoint continues the one before, which is
-    checked by ``paxidore_log_verify_consistency``. When the call returns, the state is on the disk; where it raises, it is as it was.
+    ``source`` is the log's address, below which ``checkpoint`` and ``tile/..`` are, or a function from such a name to its bytes,
+    which raises ``FileNotFoundError`` where there is none. ``state`` is a file with the last checkpoint that was accepted, as that
+    of ``paxlog follow``; the first one takes the log as it is. Each accepted checkpoint continues the one before, which
+    ``paxidore_log_verify_consistency`` checks. When the call returns, the state is on the disk; where it raises, it is as it was.
 
-    Raises what ``notes.open_checkpoint`` does; ``OldCheckpoint``; ``WrongTiles``; ``Fork``, whose evidence is kept in files beside the state
-    (``.fork``, ``.fork-proof``); ``BlockingIOError`` where another process moves the state on for longer than ``wait`` seconds; ``OSError``.
+    Raises what ``notes.open_checkpoint`` does; ``OldCheckpoint``; ``WrongTiles``; ``Fork``, whose evidence is kept in files beside
+    the state (``.fork``, ``.fork-proof``); ``BlockingIOError`` where another process moves the state on for longer than ``wait``
+    seconds; ``OSError``.
     """
     path = os.fspath(state)
     fetch = source if callable(source) else _over_http(source, timeout)
