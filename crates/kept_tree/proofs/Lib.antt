@@ -7,3 +7,5 @@ pub mod PathWrites
 pub mod LevelByLevel
 pub mod LevelPlaces
 pub mod MultiPaths
+pub mod JoinedPlaces
+pub mod JoinedTrees

@@ -1,1 +1,2 @@
+pub mod JoinedTrees
 pub mod KeptTree

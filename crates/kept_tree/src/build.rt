@@ -25,6 +25,20 @@ fn hash_run<H: ArrayHash>(memory: &mut [[u8; 32]], first: usize, count: usize)
     memory[first..first + count].copy_from_slice(&digests[..count]);
 }
 
+/// Writes the hashes at the first places, so many, from the last one up.
+pub fn rehash_first<H: ArrayHash>(memory: &mut [[u8; 32]], count: usize)
+    requires { 2 * count < length memory.old }
+    ensures { Rehashes H.node_hash 0 count memory.old memory.new }
+{
+    let mut inner = count;
+    'runs: while inner > 0 {
+        let run = inner.div_ceil(2).min(RUN);
+        let first = inner - run;
+        hash_run::<H>(memory, first, run);
+        inner = first;
+    }
+}
+
 /// Writes the hashes above the leaf digests that stand in memory, from the lowest up.
 pub fn rebuild<H: ArrayHash>(memory: &mut [[u8; 32]])
     requires { length memory.old % 2 ≡ 1 }
@@ -34,11 +48,5 @@ pub fn rebuild<H: ArrayHash>(memory: &mut [[u8; 32]])
     ensures tree { is_tree_length (length memory.old) ≡ true
         → KeepsTree H.node_hash memory.new (kept_leaves memory.old) }
 {
-    let mut inner = memory.len() / 2;
-    'runs: while inner > 0 {
-        let count = inner.div_ceil(2).min(RUN);
-        let first = inner - count;
-        hash_run::<H>(memory, first, count);
-        inner = first;
-    }
+    rehash_first::<H>(memory, memory.len() / 2);
 }

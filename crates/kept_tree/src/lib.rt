@@ -7,6 +7,7 @@
 pub mod build;
 pub mod change;
 pub mod check;
+pub mod join;
 pub mod many;
 pub mod multi_path;
 pub mod path;
