@@ -4,6 +4,7 @@ use Rattle.std.specs.Prelude.{set}
 use Rattle.std.proofs.lemmas.Bool.{cases_lt}
 use Rattle.std.proofs.lemmas.Grind.{get_or-set_at}
 use Rattle.std.proofs.lemmas.List.{ext_get_or, get_or_append_left, get_or-append_right, get_or-set_other, length-append, length-take-le, take-append-le, take-take}
+use Rattle.std.proofs.lemmas.Nat.{shr-shr, shr_le}
 use Rattle.std.proofs.Math.Nat.{mul-le-mul_right}
 use Rattle.ark_base.specs.declared.error.Error.{Error}
 use Rattle.ark_base.specs.Laws.Steps.{done_injective}
@@ -11,7 +12,7 @@ use Rattle.ark_paths.specs.Pair.{Digest}
 use Rattle.ark_trees.specs.Rfc6962.{node_hash, node_of}
 use Rattle.merkle_log.specs.Asked.{Holding, IsPeak}
 use Rattle.merkle_log.specs.Kept.{front, Keeps}
-use Rattle.merkle_log.specs.Levels.{HasRoom, Lies, Raises, parent_in, place_in}
+use Rattle.merkle_log.specs.Levels.{HasRoom, Lies, Raises, RisesTo, parent_in, place_in}
 use Rattle.merkle_log.specs.Stored.{position, stored_count, StoredValue, row_at, row_pairs, IsStored}
 use Rattle.merkle_log.specs.Walk.{index_up}
 use Rattle.merkle_log.proofs.Asking.{peak-here-at}
@@ -215,27 +216,36 @@ lies-next kept more digests size {n} {place} {digest} so long from inside is = �
 
 -- ---- level by level
 
--- The leaves of a list stand in it, and the places that the others lack up to a level.
-pub record Risen (all : List Digest) (size total : ℕ) (digests : List Digest) (level first end : ℕ) : Type 0 where
+-- Above a level the places that a list lacks are written up to another one.
+pub record Risen (begun all : List Digest) (size total from level first end : ℕ) : Type 0 where
   pub first_is : first ≡ index_up level size
   pub end_is : end ≡ index_up level total
   pub end_low : end ≤ total
-  pub lies : Lies all size digests
-  pub raised : (l place : ℕ) → l < level → index_up (l + 1) size ≤ place → place < index_up (l + 1) total
-      → place_in all (l + 1) place ≡ parent_in all l place
+  pub leaves : (place : ℕ) → place_in all 0 place ≡ place_in begun 0 place
+  pub raised : RisesTo begun size total from → RisesTo all size total level
 
-pub risen-first : {all digests : List Digest} (size total : ℕ) → size ≤ total → Lies all size digests
-    → Risen all size total digests 0 size total
-risen-first size total le lies = record {
-  first_is = refl;
-  end_is = refl;
-  end_low = omega arith;
-  lies = lies;
-  raised = λ l place below from to. absurd (omega arith);
+pub up-is : (level n : ℕ) → index_up level n ≡ n / 2 ^ level
+up-is zero n = omega arith
+up-is (suc level) n =
+    let e : 1 + level ≡ suc level = omega arith in
+    up-is level (n / 2) ∙ shr-shr n 1 level ∙ ap (λ k. n / 2 ^ k) e
+
+pub risen-first : (begun : List Digest) (size total from : ℕ)
+    → Risen begun begun size total from from (size / 2 ^ from) (total / 2 ^ from)
+risen-first begun size total from = record {
+  first_is = sym (up-is from size);
+  end_is = sym (up-is from total);
+  end_low = shr_le total from;
+  leaves = λ place. refl;
+  raised = λ rises. rises;
 }
 
-module _ {all digests : List Digest} {size total level first end : ℕ}
-    (at : Risen all size total digests level first end) where
+-- Of no levels nothing is asked.
+pub rises-none : (all : List Digest) (size total : ℕ) → RisesTo all size total 0
+rises-none all size total = record { raised = λ l place below from to. absurd (omega arith) }
+
+module _ {begun all : List Digest} {size total from level first end : ℕ}
+    (at : Risen begun all size total from level first end) where
   -- There is room for the level above.
   pub risen-room : {stored : StoredValue} {holds : ℕ → ℕ → Type 0} {room : ℕ} → stored.size ≡ size
       → stored_count size ≤ length stored.digests → Holding holds 0 (IsPeak size) → size ≤ total → total < 2 ^ 63
@@ -263,15 +273,16 @@ module _ {all digests : List Digest} {size total level first end : ℕ}
       level-fits level (end - 1) (omega arith)
 
   -- Above the last level no place is lacking.
-  pub risen-all : end ≤ first → (l place : ℕ) → index_up (l + 1) size ≤ place → place < index_up (l + 1) total
-      → place_in all (l + 1) place ≡ parent_in all l place
-  risen-all none l place from to = elim (cases_lt l level) [
-    | inl less ↦ at.raised l place less from to
-    | inr ge ↦
-        let e : level + (l + 1 - level) ≡ l + 1 = omega arith in
-        let no : index_up (l + 1) total ≤ index_up (l + 1) size = rw (e) at (none-above (l + 1 - level)) in
-        absurd (omega arith)
-  ]
+  pub risen-all : end ≤ first → RisesTo begun size total from → (top : ℕ) → RisesTo all size total top
+  risen-all none rises top = record {
+    raised = λ l place below low high. elim (cases_lt l level) [
+      | inl less ↦ (at.raised rises).raised l place less low high
+      | inr ge ↦
+          let e : level + (l + 1 - level) ≡ l + 1 = omega arith in
+          let no : index_up (l + 1) total ≤ index_up (l + 1) size = rw (e) at (none-above (l + 1 - level)) in
+          absurd (omega arith)
+    ];
+  }
     where
       none-above : (d : ℕ) → index_up (level + d) total ≤ index_up (level + d) size
       none-above zero =
@@ -282,38 +293,57 @@ module _ {all digests : List Digest} {size total level first end : ℕ}
           rw (e) (omega (arith, up-more (level + d) total, up-more (level + d) size))
 
   pub risen-next : {new : List Digest} → Raises all new level (first / 2) (end / 2)
-      → Risen new size total digests (level + 1) (first / 2) (end / 2)
+      → Risen begun new size total from (level + 1) (first / 2) (end / 2)
   risen-next {new} up = record {
     first_is = ap (λ n. n / 2) at.first_is ∙ sym (up-more level size);
     end_is = ap (λ n. n / 2) at.end_is ∙ sym (up-more level total);
     end_low = omega (arith, at.end_low);
-    lies = λ place below. up.below 0 (size + place) (omega arith) ∙ at.lies place below;
-    raised = λ l place below from to. elim (cases_lt l level) [
-      | inl less ↦
-          up.below (l + 1) place (omega arith) ∙ at.raised l place less from to
-          ∙ sym (parent-stays up l place (omega arith))
-      | inr ge ↦
-          let e : l ≡ level = omega arith in
-          rw (e) (here place (rw (e) at from) (rw (e) at to))
-    ];
+    leaves = λ place. up.below 0 place (omega arith) ∙ at.leaves place;
+    raised = λ rises. record {
+      raised = λ l place below low high. elim (cases_lt l level) [
+        | inl less ↦
+            up.below (l + 1) place (omega arith) ∙ (at.raised rises).raised l place less low high
+            ∙ sym (parent-stays up l place (omega arith))
+        | inr ge ↦
+            let e : l ≡ level = omega arith in
+            rw (e) (here place (rw (e) at low) (rw (e) at high))
+      ];
+    };
   }
     where
       here : (place : ℕ) → index_up (level + 1) size ≤ place → place < index_up (level + 1) total
           → place_in new (level + 1) place ≡ parent_in new level place
-      here place from to =
+      here place low high =
           up.raised place (omega (arith, at.first_is, up-more level size))
           (omega (arith, at.end_is, up-more level total))
           ∙ sym (parent-stays up level place (omega arith))
 
 -- ---- what is kept
 
+-- a place of the rows of stored digests
+pub held-at : (all : List Digest) (size level place : ℕ) → place < index_up level size
+    → get_or (row_at (front size all) level) place [] ≡ place_in all level place
+held-at all size level place below = row_of-at (front size all) level place below
+
+-- Of stored digests each has the hash of the two below it.
+pub pair-held : (all : List Digest) (size : ℕ) → IsStored node_of (row_at (front size all)) → (level q : ℕ)
+    → q < index_up (level + 1) size → parent_in all level q ≡ place_in all (level + 1) q
+pair-held all size hashed level q below =
+    let half = up-more level size in
+    let rows = row_at (front size all) in
+    let e : level + 1 ≡ suc level = omega arith in
+    let pair = row_pair node_of (rows level) (rows (suc level)) (hashed.pairs level) q (2 * q) (2 * q + 1)
+    (omega arith) refl (omega (arith, length-row_of (front size all) level)) in
+    ap (λ d. node_hash d (place_in all level (2 * q + 1))) (sym (held-at all size level (2 * q) (omega arith)))
+    ∙ ap (node_hash (get_or (rows level) (2 * q) [])) (sym (held-at all size level (2 * q + 1) (omega arith)))
+    ∙ done_injective {E = Error} _ _ pair ∙ ap (λ k. get_or (rows k) q []) (sym e)
+    ∙ held-at all size (level + 1) q below
+
 module _ (leaves kept more digests : List Digest) (size total : ℕ) (count : length leaves ≡ size)
     (keeps : Keeps leaves kept) (sum : total ≡ size + length digests)
     (whole : stored_count total ≡ stored_count size + length more)
     (lies : Lies (take (stored_count size) kept ++ more) size digests)
-    (raised : (l place : ℕ) → index_up (l + 1) size ≤ place → place < index_up (l + 1) total
-    → place_in (take (stored_count size) kept ++ more) (l + 1) place
-    ≡ parent_in (take (stored_count size) kept ++ more) l place) where
+    (rises : (level : ℕ) → RisesTo (take (stored_count size) kept ++ more) size total level) where
   abbrev all : List Digest
   all = take (stored_count size) kept ++ more
 
@@ -334,39 +364,21 @@ module _ (leaves kept more digests : List Digest) (size total : ℕ) (count : le
   own-hashed : IsStored node_of (row_at (front size all))
   own-hashed = stored-same node_of _ _ own-rows (rw (count) at keeps.hashed)
 
-  -- the rows of both, place by place
-  both-at : (level place : ℕ) → place < index_up level size → get_or (row_at (front size all) level) place []
-      ≡ place_in all level place
-  both-at level place below = row_of-at (front size all) level place below
-
-  all-at : (level place : ℕ) → place < index_up level total → get_or (row_at (front total all) level) place []
-      ≡ place_in all level place
-  all-at level place below = row_of-at (front total all) level place below
-
   lowest-at : (i : ℕ) → i < total → get_or (row_at (front total all) 0) i [] ≡ get_or (leaves ++ digests) i []
   lowest-at i below = elim (cases_lt i size) [
     | inl own ↦
-        all-at 0 i below ∙ sym (both-at 0 i own) ∙ ap (λ l. get_or l i []) own-lowest
+        held-at all total 0 i below ∙ sym (held-at all size 0 i own) ∙ ap (λ l. get_or l i []) own-lowest
         ∙ sym (get_or_append_left leaves digests [] i (omega (arith, count)))
     | inr new ↦
         let e : size + (i - size) ≡ i = omega arith in
-        all-at 0 i below ∙ ap (place_in all 0) (sym e) ∙ lies (i - size) (omega (arith, sum))
+        held-at all total 0 i below ∙ ap (place_in all 0) (sym e) ∙ lies (i - size) (omega (arith, sum))
         ∙ sym (get_or-append_right leaves digests size i [] count new)
   ]
 
   hashed-at : (level q : ℕ) → q < index_up (level + 1) total → parent_in all level q ≡ place_in all (level + 1) q
   hashed-at level q below = elim (cases_lt q (index_up (level + 1) size)) [
-    | inl own ↦
-        let half = up-more level size in
-        let rows = row_at (front size all) in
-        let e : level + 1 ≡ suc level = omega arith in
-        let pair = row_pair node_of (rows level) (rows (suc level)) (own-hashed.pairs level) q (2 * q) (2 * q + 1)
-        (omega arith) refl (omega (arith, length-row_of (front size all) level)) in
-        ap (λ d. node_hash d (place_in all level (2 * q + 1))) (sym (both-at level (2 * q) (omega arith)))
-        ∙ ap (node_hash (get_or (rows level) (2 * q) [])) (sym (both-at level (2 * q + 1) (omega arith)))
-        ∙ done_injective {E = Error} _ _ pair ∙ ap (λ k. get_or (rows k) q []) (sym e)
-        ∙ both-at (level + 1) q own
-    | inr new ↦ sym (raised level q new below)
+    | inl own ↦ pair-held all size own-hashed level q own
+    | inr new ↦ sym ((rises (level + 1)).raised level q (omega arith) new below)
   ]
 
   all-hashed : (level : ℕ) → row_pairs node_of (row_at (front total all) level)
@@ -376,9 +388,9 @@ module _ (leaves kept more digests : List Digest) (size total : ℕ) (count : le
       let half = up-more level total in
       hashed-all node_of (rows level) (rows (level + 1)) (length-up (front total all) level) (λ q below.
       let inside : q < index_up (level + 1) total = omega (arith, length-row_of (front total all) (level + 1)) in
-      ap Ok (ap (λ d. node_hash d (get_or (rows level) (2 * q + 1) [])) (all-at level (2 * q) (omega arith))
-      ∙ ap (node_hash (place_in all level (2 * q))) (all-at level (2 * q + 1) (omega arith))
-      ∙ hashed-at level q inside ∙ sym (all-at (level + 1) q inside)))
+      ap Ok (ap (λ d. node_hash d (get_or (rows level) (2 * q + 1) [])) (held-at all total level (2 * q) (omega arith))
+      ∙ ap (node_hash (place_in all level (2 * q))) (held-at all total level (2 * q + 1) (omega arith))
+      ∙ hashed-at level q inside ∙ sym (held-at all total (level + 1) q inside)))
 
   pub risen-keeps : Keeps (leaves ++ digests) all
   risen-keeps =

@@ -46,3 +46,4 @@ pub mod Levels
 pub mod RisenRows
 pub mod LaidRows
 pub mod Rooms
+pub mod PartsBehind

@@ -1,5 +1,6 @@
 -- A log's list that grows level by level.
-use Rattle.std.specs.Prelude.{◌≡◌, ◌<◌, ◌≤◌, ◌+◌, ◌*◌, ◌^◌, ℕ, List, [], length, get_or}
+use Rattle.std.specs.Prelude.{◌≡◌, ◌==◌, ◌<◌, ◌≤◌, ◌+◌, ◌-◌, ◌*◌, ◌%◌, ◌^◌, ℕ, Bool, List, [], length, get_or}
+use Rattle.ark_paths.specs.Index.{log2}
 use Rattle.ark_paths.specs.Pair.{Digest}
 use Rattle.ark_trees.specs.Rfc6962.{node_hash}
 use Rattle.merkle_log.specs.Asked.{Holding, IsPeak}
@@ -35,3 +36,17 @@ pub record Raises (old new : List Digest) (level first end : ℕ) : Type 0 where
 -- The digests of leaves stand behind those of so many.
 abbrev pub Lies : List Digest → ℕ → List Digest → Type 0
 Lies all size digests = (place : ℕ) → place < length digests → place_in all 0 (size + place) ≡ get_or digests place []
+
+-- Up to a level, each place that a longer log has and one of this size lacks has the hash of the two digests below it.
+pub record RisesTo (all : List Digest) (size total level : ℕ) : Type 0 where
+  pub raised : (l place : ℕ) → l < level → index_up (l + 1) size ≤ place → place < index_up (l + 1) total
+      → place_in all (l + 1) place ≡ parent_in all l place
+
+-- the level of the smallest complete subtree that has at least so many leaves
+abbrev pub covering_level : ℕ → ℕ
+covering_level count = log2 (2 * count - 1)
+
+-- whether a part of so many entries, hashed apart, can be put behind so many others: a power of two that is at least
+-- the part's count divides that of the others, so that each subtree of the part is one of the whole log
+abbrev pub joins_behind : ℕ → ℕ → Bool
+joins_behind size count = size % 2 ^ covering_level count == 0

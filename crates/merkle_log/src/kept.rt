@@ -24,7 +24,7 @@ use crate::paths::{consistency_path_of, inclusion_path_of};
 use crate::places::digest_at;
 pub use crate::places::{position_of, stored_count};
 use crate::rows::{Rows, root_of};
-pub use growth::{append_by, append_kept, append_over};
+pub use growth::{append_by, append_kept, append_over, can_stand_behind, join_kept};
 use sha2::{Digest, Sha256};
 use std::alloc::{AllocError, Global};
 use std::marker::Model;

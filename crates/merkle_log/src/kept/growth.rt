@@ -9,10 +9,12 @@ ghost use Rattle.merkle_log.specs.Walk.{index_up};
 
 mod by_hasher;
 mod levels;
+mod parts;
 
 use crate::kept::Kept;
 pub use crate::kept::growth::by_hasher::append_by;
 use crate::kept::growth::levels::grow;
+pub use crate::kept::growth::parts::{can_stand_behind, join_kept};
 use crate::places::{position_of, stored_count};
 use crate::rows::Rows;
 

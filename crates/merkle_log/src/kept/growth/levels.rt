@@ -4,7 +4,7 @@ ghost use Rattle.std.specs.Prelude.{◌≡◌, ◌<◌, ◌≤◌, ◌+◌, ◌-
 ghost use Rattle.ark_paths.specs.Pair.{Digest};
 ghost use Rattle.merkle_log.specs.Asked.{Holding, IsPeak};
 ghost use Rattle.merkle_log.specs.Kept.{Keeps, stored_front};
-ghost use Rattle.merkle_log.specs.Levels.{HasRoom, Lies, Raises, parent_in, place_in};
+ghost use Rattle.merkle_log.specs.Levels.{HasRoom, Lies, Raises, RisesTo, parent_in, place_in};
 ghost use Rattle.merkle_log.specs.Stored.{position, stored_count};
 
 use crate::kept::growth::digest_among;
@@ -132,6 +132,38 @@ fn raise<R: Rows<[u8; 32]>>(
     }
 }
 
+/// Writes the digests of the places above a level that the rows of a log of this size lack for a longer one.
+pub fn raise_from<R: Rows<[u8; 32]>>(
+    rows: &R,
+    size: usize,
+    total: usize,
+    from: usize,
+    more: &mut [[u8; 32]],
+)
+    requires size { (R.stored rows.now).size ≡ size }
+    requires stored { stored_count size ≤ length (R.stored rows.now).digests }
+    requires held { Holding (R.Holds rows.now) 0 (IsPeak size) }
+    requires longer { size ≤ total }
+    requires fits { total < 2 ^ 63 }
+    requires level { from < 64 }
+    requires room { stored_count total ≡ stored_count size + length more.old }
+    ensures rises { RisesTo (stored_front (R.stored rows.now) ++ more.old) size total from
+        → (level : ℕ) → RisesTo (stored_front (R.stored rows.now) ++ more.new) size total level }
+    ensures leaves { let kept = stored_front (R.stored rows.now) in (place : ℕ)
+        → place_in (kept ++ more.new) 0 place ≡ place_in (kept ++ more.old) 0 place }
+    ensures same { length more.new ≡ length more.old }
+{
+    let mut level = from;
+    let mut first = size >> from;
+    let mut end = total >> from;
+    'levels: while first < end {
+        first /= 2;
+        end /= 2;
+        raise(rows, size, more, level, first, end);
+        level += 1;
+    }
+}
+
 /// Fills `more` with the digests that the rows of a log of this size lack for more leaves' digests.
 pub fn grow<R: Rows<[u8; 32]>>(rows: &R, size: usize, digests: &[[u8; 32]], more: &mut [[u8; 32]])
     requires size { (R.stored rows.now).size ≡ size }
@@ -145,13 +177,5 @@ pub fn grow<R: Rows<[u8; 32]>>(rows: &R, size: usize, digests: &[[u8; 32]], more
     ensures same { length more.new ≡ length more.old }
 {
     put_leaves(more, size, digests);
-    let mut level = 0;
-    let mut first = size;
-    let mut end = size + digests.len();
-    'levels: while first < end {
-        first /= 2;
-        end /= 2;
-        raise(rows, size, more, level, first, end);
-        level += 1;
-    }
+    raise_from(rows, size, size + digests.len(), 0, more);
 }
