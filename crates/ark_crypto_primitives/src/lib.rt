@@ -187,6 +187,7 @@ pub mod merkle_tree {
         pub use kept_tree::build::rebuild;
         pub use kept_tree::change::set_leaf;
         pub use kept_tree::check::{holds_tree, is_tree_length};
+        pub use kept_tree::join::{are_joinable, join_trees};
         pub use kept_tree::many::rehash_above;
         pub use kept_tree::multi_path::multi_path_bytes;
         pub use kept_tree::path::{kept_root, path_len, write_path};

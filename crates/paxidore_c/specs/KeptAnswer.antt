@@ -5,6 +5,7 @@ use Rattle.ark_merkle.specs.MultiProof.{multi_path_in}
 use Rattle.ark_paths.specs.Index.{is_tree_size}
 use Rattle.ark_paths.specs.Pair.{Digest}
 use Rattle.ark_paths.specs.Tree.{path_in, tree_with}
+use Rattle.kept_tree.specs.JoinedTrees.{is_joined_length}
 use Rattle.kept_tree.specs.KeptTree.{is_tree_length, kept_multi_way, kept_way, leaf_count}
 use Rattle.paxidore_calls.specs.Answer.{are_indexes, leaves_in, only_if}
 use Rattle.paxidore_calls.specs.Cut.{parts_by}
@@ -58,3 +59,7 @@ leaves_to_change count indexes leaves lengths = only_if (is_tree_length count) S
     (only_if (length lengths == length indexes) Count (do
       xs ← leaves_in (parts_by leaves lengths)
       only_if (are_indexes (leaf_count count) indexes) Index (Ok xs)))
+
+-- how many kept trees of equal size are joined, where their tree has so many digests
+abbrev pub trees_to_join : ℕ → List Digest → ℕ → Result ℕ Refused
+trees_to_join tree parts count = only_if (is_joined_length (length parts) count tree) Size (Ok count)

@@ -6,11 +6,12 @@ ghost use Rattle.std.specs.Option.{is_some};
 ghost use Rattle.ark_paths.specs.Index.{log2};
 ghost use Rattle.ark_paths.specs.Pair.{Digest};
 ghost use Rattle.ark_paths.specs.Tree.{root_in, tree_with};
+ghost use Rattle.kept_tree.specs.JoinedTrees.{JoinsTrees, KeepsShares};
 ghost use Rattle.kept_tree.specs.KeptTree.{ChangesLeaf, KeepsTree, is_tree_length, kept_leaves, leaf_count};
 ghost use Rattle.paxidore_calls.specs.Answer.{Hands, done_code, hashing_of, in_hashing, refusal_code, tree_leaves_in, verdict_code};
 ghost use Rattle.paxidore_calls.specs.Cut.{parts_by};
 ghost use Rattle.paxidore_calls.specs.Hashing.{Hashing, hashes_of};
-ghost use Rattle.paxidore_c.specs.KeptAnswer.{kept_check, kept_index, kept_path, kept_root, leaves_to_keep, path_of_digests};
+ghost use Rattle.paxidore_c.specs.KeptAnswer.{kept_check, kept_index, kept_path, kept_root, leaves_to_keep, path_of_digests, trees_to_join};
 ghost use Rattle.paxidore_calls.specs.declared.refused.Refused.TheVariants.{Memory};
 
 use crate::hashing::in_hashing;
@@ -19,6 +20,7 @@ use ark_paths::is_tree_size;
 use kept_tree::build::rebuild;
 use kept_tree::change::set_leaf;
 use kept_tree::check::{holds_tree, is_tree_length};
+use kept_tree::join::{are_joinable, join_trees};
 use kept_tree::path::write_path;
 use paxidore_calls::leaves::{are_parts, write_leaf_digests};
 use paxidore_calls::refused::Refused;
@@ -51,6 +53,21 @@ fn tree_build<H: ArrayHash>(tree: &mut [[u8; 32]], leaves: &[u8], lengths: &[usi
     }
     write_leaves::<H>(tree, leaves, lengths);
     rebuild::<H>(tree);
+    0
+}
+
+// Joins so many trees of equal size, and returns the code.
+fn tree_join<H: ArrayHash>(tree: &mut [[u8; 32]], parts: &[[u8; 32]], count: usize) -> i32
+    ensures answer { result ≡ done_code (trees_to_join (length tree.old) parts.now count) }
+    ensures joins { result ≡ pos 0 → JoinsTrees H.node_hash count parts.now tree.old tree.new }
+    ensures tree { (leaves : List Digest) → result ≡ pos 0
+        → KeepsShares H.node_hash parts.now count leaves → KeepsTree H.node_hash tree.new leaves }
+    ensures kept { result ≢ pos 0 → tree.new ≡ tree.old }
+{
+    if !are_joinable(tree, parts, count) {
+        return Refused::Size.code();
+    }
+    join_trees::<H>(tree, parts, count);
     0
 }
 
@@ -141,6 +158,34 @@ pub extern "C" fn paxidore_tree_build(
     ensures kept { result ≢ pos 0 → tree.new ≡ tree.old }
 {
     in_hashing!(hashing, tree_build(tree, leaves, lengths))
+}
+
+/// Writes the tree over all leaves of some kept trees of equal size, which lie one behind the other in `parts`: copies their
+/// digests, and hashes only those above them.
+///
+/// Answers: 0; else the first of `E_INVALID` for a number that names no hashing and `E_SIZE`, where the parts are not so many trees of
+/// equal size or the memory is not as long as the tree over their leaves, which leave the memory as before.
+#[unsafe(no_mangle)]
+pub extern "C" fn paxidore_tree_join(
+    tree: &mut [[u8; 32]],
+    hashing: u32,
+    parts: &[[u8; 32]],
+    parts_count: usize,
+) -> i32
+    ensures answer { result ≡ done_code (in_hashing hashing (λ h.
+        trees_to_join (length tree.old) parts.now parts_count)) }
+
+    // Whatever the parts hold: their digests are copied, and those above them are hashed from those below.
+    ensures joins { result ≡ pos 0 → IfOk (hashing_of hashing) (λ h.
+        JoinsTrees h.node parts_count parts.now tree.old tree.new) }
+
+    // Trees above shares of a list of leaf digests become the tree above that list.
+    ensures tree { result ≡ pos 0 → IfOk (hashing_of hashing) (λ h.
+        (leaves : List Digest) → KeepsShares h.node parts.now parts_count leaves
+        → KeepsTree h.node tree.new leaves) }
+    ensures kept { result ≢ pos 0 → tree.new ≡ tree.old }
+{
+    in_hashing!(hashing, tree_join(tree, parts, parts_count))
 }
 
 /// Writes the hashes above the leaf digests that stand in memory, from the lowest up.

@@ -13,7 +13,7 @@ ghost use Rattle.merkle_log.specs.Kept.{front, has_front, Keeps};
 ghost use Rattle.merkle_log.specs.Received.{ShowsLogLeaf, consistency_length, inclusion_length};
 ghost use Rattle.merkle_log.specs.Stored.{row_at, stored_count};
 ghost use Rattle.paxidore_calls.specs.Answer.{GivesCode, CallGivesBy, Hands, done_code, refusal_code, verdict_code};
-ghost use Rattle.paxidore_calls.specs.KeptLog.{appended, consistency_bytes, digest_hashes, digest_shown, if_inside, if_kept, if_older, inclusion_bytes, kept_code, log_root, more_count, takes};
+ghost use Rattle.paxidore_calls.specs.KeptLog.{appended, consistency_bytes, digest_hashes, digest_shown, if_inside, if_kept, if_older, inclusion_bytes, joined_count, kept_code, log_root, more_count, takes};
 ghost use Rattle.paxidore_calls.specs.LogProofs.{proof_digests};
 ghost use Rattle.paxidore_calls.specs.declared.refused.Refused.TheVariants.{Memory, Room, Size};
 
@@ -21,7 +21,7 @@ use ark_base::error::Error;
 use ark_base::serialize::CanonicalItem;
 use ark_paths::hasher::TreeHasher;
 use ark_trees::LogHasher;
-use merkle_log::kept::{Kept, is_size, stored_count};
+use merkle_log::kept::{Kept, can_stand_behind, is_size, join_kept, stored_count};
 use merkle_log::path_lengths::{consistency_length, inclusion_length};
 use merkle_log::verify_inclusion_bytes;
 use paxidore_calls::buffer::hand_over_digests;
@@ -232,6 +232,57 @@ pub extern "C" fn paxidore_log_append(
         }
         Err(refused) => refused.code(),
     }
+}
+
+/// Writes to the front of `more` the digests to put behind the stored ones of a log of `size` entries for those of a part, whose own
+/// `part_size` entries were hashed apart, and how many to `more_len`. They are those that an append of the entries writes.
+///
+/// Answers: 0; else the first of `E_SIZE` for fewer digests than are stored, of the log or of the part, for a new size of 2^63 and
+/// above, and where no power of two that is at least `part_size` divides `size`, and `E_ROOM`, which alone writes the count that is
+/// needed. Each leaves `more` as before.
+#[unsafe(no_mangle)]
+pub extern "C" fn paxidore_log_join(
+    more: &mut [[u8; 32]],
+    more_len: &mut usize,
+    kept: &[[u8; 32]],
+    size: usize,
+    part: &[[u8; 32]],
+    part_size: usize,
+) -> i32
+    ensures answer { result
+        ≡ done_code (joined_count size kept.now part_size part.now (length more.old)) }
+
+    // Of two lists of leaf digests, of `size` and of `part_size`, whose stored ones are kept: those of the log and `more` behind them
+    // are the stored digests of the one list with the other behind it.
+    ensures grows { (leaves entries : List Digest) → result ≡ pos 0 → length leaves ≡ size
+        → length entries ≡ part_size → Keeps leaves kept.now → Keeps entries part.now
+        → Keeps (leaves ++ entries) (take (stored_count size) kept.now ++ take
+        more_len.new more.new) }
+    ensures counted { result ≡ pos 0 → more_len.new ≡ more_count size part_size }
+    ensures behind { result ≡ pos 0 → drop more_len.new more.new ≡ drop more_len.new more.old }
+    ensures room_needed { result ≡ refusal_code Room → more_len.new ≡ more_count size part_size }
+    ensures kept { result ≢ pos 0 → more.new ≡ more.old }
+    ensures uncounted { result ≢ pos 0 → result ≢ refusal_code Room → more_len.new ≡ more_len.old }
+    ensures no_memory { result ≢ refusal_code Memory }
+{
+    let Some(kept) = Kept::of(size, kept) else {
+        return Refused::Size.code();
+    };
+    let Some(part) = Kept::of(part_size, part) else {
+        return Refused::Size.code();
+    };
+    let Some(count) = more_count(size, part_size) else {
+        return Refused::Size.code();
+    };
+    if !can_stand_behind(size, part_size) {
+        return Refused::Size.code();
+    }
+    if count > more.len() {
+        *more_len = count;
+        return Refused::Room.code();
+    }
+    *more_len = join_kept(&kept, &part, more);
+    0
 }
 
 /// Returns whether each stored digest of a pair is the hash of its two.

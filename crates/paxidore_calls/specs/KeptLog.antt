@@ -8,6 +8,7 @@ use Rattle.ark_paths.specs.Pair.{Digest, Hashes}
 use Rattle.ark_trees.specs.Rfc6962.{node_of}
 use Rattle.merkle_log.specs.Kept.{has_front}
 use Rattle.merkle_log.specs.Edge.{all_of}
+use Rattle.merkle_log.specs.Levels.{joins_behind}
 use Rattle.merkle_log.specs.Log.{merkle_tree_hash, inclusion_path, consistency_path}
 use Rattle.merkle_log.specs.Received.{inclusion_length, received_inclusion}
 use Rattle.merkle_log.specs.Stored.{stored_count}
@@ -66,6 +67,13 @@ takes size count = nat_lt (size + count) (2 ^ 63)
 abbrev pub appended : ℕ → List Digest → ℕ → List ℕ → List ℕ → Result (List (List ℕ)) Refused
 appended size kept room entries lengths = if_kept size kept (only_if (takes size (length lengths)) Size
     (only_if (not (nat_lt room (more_count size (length lengths)))) Room (leaves_in (parts_by entries lengths))))
+
+-- how many digests are put behind the stored ones of a kept log for a part of so many entries, whose own stored digests
+-- are kept apart, where a buffer has room for them
+abbrev pub joined_count : ℕ → List Digest → ℕ → List Digest → ℕ → Result ℕ Refused
+joined_count size kept count part room = if_kept size kept (if_kept count part (only_if (takes size count) Size
+    (only_if (joins_behind size count) Size (only_if (not (nat_lt room (more_count size count))) Room
+    (Ok (more_count size count))))))
 
 -- ---- checks by a digest
 
