@@ -1,6 +1,6 @@
 /* Each request for memory refused in turn: the answer is PAXIDORE_E_MEMORY, nothing is lost and no buffer is touched. A million
  * calls leave nothing behind. Linked with -Wl,--wrap=malloc,--wrap=realloc,--wrap=free. */
-#include "paxidore.h"
+#include "paxidore_join.h"
 
 #include <stdio.h>
 #include <string.h>
@@ -201,6 +201,17 @@ int main(void) {
         paxidore_tree_root(to_root, tree, 15) == PAXIDORE_OK && memcmp(to_root, root, 32) == 0 &&
         paxidore_tree_path(to_path, sizeof to_path, &to_len, tree, 15, 4) == PAXIDORE_OK &&
         memcmp(to_path, path, sizeof path) == 0 && paxidore_tree_check(PAXIDORE_RFC6962, tree, 15) == PAXIDORE_OK && calls == 0)
+        passed++;
+    else
+        failed++;
+    /* nor do parts that are joined: here two halves, as trees and as logs */
+    uint8_t parts[32 * 14], joined[32 * 15];
+    memcpy(parts, tree + 32, 32), memcpy(parts + 32, tree + 32 * 3, 64), memcpy(parts + 32 * 3, tree + 32 * 7, 32 * 4);
+    memcpy(parts + 32 * 7, tree + 64, 32), memcpy(parts + 32 * 8, tree + 32 * 5, 64), memcpy(parts + 32 * 10, tree + 32 * 11, 32 * 4);
+    calls = 0;
+    if (paxidore_tree_join(joined, 15, PAXIDORE_RFC6962, parts, 14, 2) == PAXIDORE_OK && memcmp(joined, tree, sizeof joined) == 0 &&
+        paxidore_log_join(joined, 15, &to_len, kept, 7, 4, kept + 32 * 7, 7, 4) == PAXIDORE_OK && to_len == 8 &&
+        memcmp(joined, kept + 32 * 7, 32 * 8) == 0 && calls == 0)
         passed++;
     else
         failed++;

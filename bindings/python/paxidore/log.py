@@ -2,7 +2,7 @@
 import ctypes
 import itertools
 import os
-from typing import Callable, Iterable, Optional
+from typing import Any, Callable, Iterable, Optional, Tuple
 
 from ._library import (
     DIGEST_BYTES,
@@ -24,6 +24,7 @@ from ._turn import Turn
 
 _log_kept = _call("log_kept", _size, _size)
 _log_append = _call("log_append", ctypes.c_int32, ctypes.c_void_p, _size, _sizes, ctypes.c_void_p, _size, _size, *_leaves)
+_log_join = _call("log_join", ctypes.c_int32, ctypes.c_void_p, _size, _sizes, ctypes.c_void_p, _size, _size, _bytes, _size, _size)
 _log_root = _call("log_root", ctypes.c_int32, ctypes.c_void_p, ctypes.c_void_p, _size, _size)
 _log_path = (ctypes.c_void_p, _size, _sizes, ctypes.c_void_p, _size, _size, _size)
 _log_inclusion = _call("log_inclusion", ctypes.c_int32, *_log_path)
@@ -52,10 +53,16 @@ class _Memory:
         return self.own
 
     def append(self, flat: "_Flat") -> int:
-        size, count = self.own + flat[3], _size()
+        return self.grow(_log_append, flat[3], *flat)
+
+    def join(self, size: int, digests: bytes) -> int:
+        return self.grow(_log_join, size, digests, len(digests) // DIGEST_BYTES, size)
+
+    def grow(self, call: Any, entries: int, *given: Any) -> int:
+        size, count = self.own + entries, _size()
         room = max(_log_kept(size) - _log_kept(self.own), 0)
         more = ctypes.create_string_buffer(DIGEST_BYTES * room)
-        answer = _log_append(more, room, ctypes.byref(count), self.lent(), self.count(), self.own, *flat)
+        answer = call(more, room, ctypes.byref(count), self.lent(), self.count(), self.own, *given)
         if answer != 0:
             raise _refusal(answer)
         added = ctypes.string_at(more, DIGEST_BYTES * count.value)
@@ -183,6 +190,28 @@ class Log:
 
     def _append(self, flat: _Flat) -> int:
         return self._open().append(flat)
+
+    def join(self, part: "Log") -> int:
+        """Appends the entries of a part, a log whose own entries were hashed apart, as in a thread, and returns the new size: its digests
+        are copied, and only those above them are hashed. Both logs are in memory, else ``ValueError``.
+
+        A power of two that is at least the part's size has to divide this log's, else ``SizeError``: cut entries into parts of 2^k and
+        a shorter last one, and join them in order.
+        """
+        return self._turn.run(self._join, *part._turn.run(part._stored))
+
+    def _join(self, size: int, digests: bytes) -> int:
+        return self._in_memory().join(size, digests)
+
+    def _stored(self) -> "Tuple[int, bytes]":
+        kept = self._in_memory()
+        return kept.own, bytes(kept.digests)
+
+    def _in_memory(self) -> _Memory:
+        kept = self._open()
+        if not isinstance(kept, _Memory):
+            raise ValueError("a log in a file is not joined")
+        return kept
 
     def extend(self, entries: Iterable[bytes], *, progress: Optional[Callable[[int], object]] = None) -> int:
         """Appends entries as they come, 1,024 at a time, and returns the new size. ``progress`` is called with the size after each append.

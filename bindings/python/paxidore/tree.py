@@ -39,6 +39,7 @@ _root = _call("tree_root", ctypes.c_int32, _memory, _memory, _size)
 _path = _call("tree_path", ctypes.c_int32, _memory, _size, _sizes, _memory, _size, _size)
 _multi_path = _call("tree_multi_path", ctypes.c_int32, _memory, _size, _sizes, _memory, _size, _sizes, _size)
 _check = _call("tree_check", ctypes.c_int32, _hashing, _memory, _size)
+_join = _call("tree_join", ctypes.c_int32, _memory, _size, _hashing, _bytes, _size, _size)
 
 
 def _leaf_count(length: int) -> int:
@@ -115,6 +116,23 @@ class Tree:
         except BaseException:
             os.unlink(path)
             raise
+        return tree
+
+    @classmethod
+    def join(cls, parts: "Sequence[Tree]") -> "Tree":
+        """The tree over all leaves of some trees of equal size and one hashing, as threads can build them, in memory of its own: their
+        digests are copied, and only those above them are hashed. There are 1, 2, 4, 8 .. parts.
+
+        Raises ``SizeError`` for another count and for parts of different sizes, ``ValueError`` for parts of different hashings.
+        """
+        if len({part._size for part in parts}) != 1:
+            raise _refusal(SizeError.code)
+        if len({part._trees._hashing for part in parts}) != 1:
+            raise ValueError("the parts have different hashings")
+        apart = b"".join([part._turn.run(part._copied) for part in parts])
+        room = _length(_leaf_count(_length(parts[0]._size * len(parts))))
+        tree = cls(bytearray(room), trees=parts[0]._trees)
+        tree._done(_join, given=(tree._trees._hashing, apart, len(apart) // DIGEST_BYTES, len(parts)))
         return tree
 
     @classmethod
@@ -226,6 +244,9 @@ class Tree:
         except BaseException:
             self.close()
             raise
+
+    def _copied(self) -> bytes:
+        return bytes(self._place())
 
     def _place(self) -> Any:
         if self._held is None:

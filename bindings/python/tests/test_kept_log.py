@@ -1,5 +1,7 @@
 """Logs in memory, against hashlib."""
 import copy
+import os
+import tempfile
 import threading
 import unittest
 
@@ -124,6 +126,38 @@ class InMemory(unittest.TestCase):
         log.close()
         self.assertRaises(ValueError, log.root)
         self.assertRaises(ValueError, len, log)
+
+    def test_joins(self):
+        entries = drawn(70)
+        digests = entry_digests(entries)
+        for size in range(65):
+            for count in range(71 - size):
+                log, part = Log(), Log()
+                log.append(entries[:size])
+                part.append(entries[size : size + count])
+                if size % (1 << max(count - 1, 0).bit_length()):
+                    self.assertRaises(paxidore.SizeError, log.join, part)
+                    self.assertEqual((len(log), log.root()), (size, mth(digests[:size])))
+                    continue
+                self.assertEqual(log.join(part), size + count)
+                self.assertEqual(bytes(log._kept.digests), b"".join(stored(digests[: size + count])))
+        # parts of 16, and a shorter last one; a log is a part of its own, too
+        log = Log()
+        for first in range(0, 70, 16):
+            part = Log()
+            part.append(entries[first : first + 16])
+            log.join(part)
+        self.assertEqual((len(log), log.root()), (70, mth(digests)))
+        twice = Log()
+        twice.append(entries[:32])
+        self.assertEqual((twice.join(twice), twice.root()), (64, mth(digests[:32] * 2)))
+        twice.close()
+        self.assertRaises(ValueError, log.join, twice)
+        self.assertRaises(ValueError, twice.join, log)
+        with tempfile.TemporaryDirectory() as folder, Log.open(os.path.join(folder, "log")) as file:
+            self.assertRaises(ValueError, file.join, Log())
+            self.assertRaises(ValueError, log.join, file)
+        self.assertEqual((len(log), log.root()), (70, mth(digests)))
 
     def test_damage_is_found(self):
         for size in range(2, 40):

@@ -258,6 +258,27 @@ class Trees(unittest.TestCase):
         self.assertRaises(paxidore.SizeError, Tree.build, leaves[:3], self.file + "s")
         self.assertFalse(os.path.exists(self.file + "s"))
 
+    def test_joins(self):
+        leaves = [drawn_leaf() for _ in range(64)]
+        for trees, leaf, node in HASHINGS:
+            for size in (2, 4, 8, 16, 32, 64):
+                for count in (1, 2, 4, 8, 16, 32):
+                    if size * count > 64:
+                        continue
+                    parts = [Tree.build(leaves[size * n : size * n + size], trees=trees) for n in range(count)]
+                    tree = Tree.join(parts)
+                    self.assertEqual(bytes(tree._held), Model(leaf, node, leaves[: size * count]).bytes())
+                    self.assertEqual(repr(tree), "<paxidore.Tree of %d leaves, %r>" % (size * count, trees))
+        small, large = Tree.build(leaves[:2]), Tree.build(leaves[:4])
+        for parts in ([], [small] * 3, [small, large], [large, small]):
+            self.assertRaises(paxidore.SizeError, Tree.join, parts)
+        self.assertRaises(ValueError, Tree.join, [small, Tree.build(leaves[:2], trees=paxidore.sha256)])
+        # whatever a part holds
+        other = Tree(bytearray(DRAWS.randbytes(96)))
+        self.assertEqual(bytes(Tree.join([other, small])._held)[32:64], bytes(other._held)[:32])
+        small.close()
+        self.assertRaises(ValueError, Tree.join, [small, other])
+
     def test_progress(self):
         leaves = [drawn_leaf() for _ in range(4096)]
         for trees, leaf, node in HASHINGS:

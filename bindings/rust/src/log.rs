@@ -189,6 +189,20 @@ impl Log {
         }
     }
 
+    /// Appends the entries of a part, a log whose own entries were hashed apart, as in a thread, and returns the new size: its digests
+    /// are copied, and only those above them are hashed. Both logs are in memory.
+    ///
+    /// A power of two that is at least the part's size has to divide this log's: cut entries into parts of 2^k and a shorter last one,
+    /// and join them in order. Refusals: `Size`. `LogError::Io` for a log in a file.
+    pub fn join(&mut self, part: &Log) -> Result<usize, LogError> {
+        let (Kept::Memory(stored), Kept::Memory(others)) = (&mut self.kept, &part.kept) else {
+            let why = "logs in files are not joined";
+            return Err(io::Error::new(io::ErrorKind::Unsupported, why).into());
+        };
+        self.size = joined(stored, self.size, others, part.size)?;
+        Ok(self.size)
+    }
+
     /// The root of the first `size` entries; of none the SHA-256 of nothing. Refusals: `Size` for more than there are.
     pub fn root(&self, size: usize) -> Result<Digest, LogError> {
         let stored = match &self.kept {
@@ -292,6 +306,38 @@ fn grown(stored: &mut Vec<Digest>, own: usize, flat: &Flat) -> Result<usize, Ref
         return Err(Refused::of(answer));
     }
     more.truncate(count);
+    stored.append(&mut more);
+    Ok(size)
+}
+
+// Puts the digests of a part behind the stored ones, and returns the new size.
+fn joined(
+    stored: &mut Vec<Digest>,
+    own: usize,
+    part: &[Digest],
+    count: usize,
+) -> Result<usize, Refused> {
+    let size = own.saturating_add(count);
+    let room = stored_count(size).saturating_sub(stored.len());
+    let (mut more, mut made) = (vec![[0; 32]; room], 0);
+    // SAFETY: as in `grown`.
+    let answer = unsafe {
+        sys::paxidore_log_join(
+            more.as_mut_ptr().cast(),
+            room,
+            &mut made,
+            stored.as_ptr().cast(),
+            stored.len(),
+            own,
+            part.as_ptr().cast(),
+            part.len(),
+            count,
+        )
+    };
+    if answer != 0 {
+        return Err(Refused::of(answer));
+    }
+    more.truncate(made);
     stored.append(&mut more);
     Ok(size)
 }

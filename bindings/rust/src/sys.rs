@@ -1,4 +1,4 @@
-//! The calls as `paxidore.h` declares them, under names of this module.
+//! The calls as the headers declare them, under names of this module.
 
 use core::ffi::{c_char, c_int};
 
@@ -110,6 +110,14 @@ extern "C" {
         indexes_count: usize,
     ) -> i32;
     pub fn paxidore_tree_check(hashing: u32, tree: *const u8, tree_len: usize) -> i32;
+    pub fn paxidore_tree_join(
+        tree: *mut u8,
+        tree_len: usize,
+        hashing: u32,
+        parts: *const u8,
+        parts_len: usize,
+        parts_count: usize,
+    ) -> i32;
 }
 
 /// The state of a BLAKE2s under way. Its members are the library's own.
@@ -365,6 +373,17 @@ extern "C" {
         entries_len: usize,
         lengths: *const usize,
         count: usize,
+    ) -> i32;
+    pub fn paxidore_log_join(
+        more: *mut u8,
+        more_room: usize,
+        more_len: *mut usize,
+        kept: *const u8,
+        kept_len: usize,
+        size: usize,
+        part: *const u8,
+        part_len: usize,
+        part_size: usize,
     ) -> i32;
     pub fn paxidore_log_root(root: *mut u8, kept: *const u8, kept_len: usize, size: usize) -> i32;
     pub fn paxidore_log_inclusion(

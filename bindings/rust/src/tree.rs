@@ -72,6 +72,34 @@ impl Tree<Vec<u8>> {
         Ok(tree)
     }
 
+    /// The tree over all leaves of some trees of equal size, as threads can build them: their digests are copied, and only those above
+    /// them are hashed. There are 1, 2, 4, 8 .. parts, in the hashing that is named. Refusals: `Size`.
+    pub fn join<M: AsRef<[u8]>>(trees: Trees, parts: &[Tree<M>]) -> Result<Tree<Vec<u8>>, Refused> {
+        let memories: Vec<&[u8]> = parts.iter().map(|part| part.memory.as_ref()).collect();
+        let (Some(first), same) = (memories.first(), memories.windows(2)) else {
+            return Err(Refused::Size);
+        };
+        // trees that are not of equal size may be as long together as others that are
+        if !same.clone().all(|two| two[0].len() == two[1].len()) {
+            return Err(Refused::Size);
+        }
+        let size = (digests(first)? / 2 + 1).saturating_mul(parts.len());
+        let apart = memories.concat();
+        let mut memory = vec![0; Tree::bytes(size)];
+        // SAFETY: as in `build_in`.
+        done(unsafe {
+            sys::paxidore_tree_join(
+                memory.as_mut_ptr(),
+                memory.len() / 32,
+                trees.hashing,
+                apart.as_ptr(),
+                apart.len() / 32,
+                parts.len(),
+            )
+        })?;
+        Ok(Tree { trees, memory })
+    }
+
     /// How many bytes a tree of so many leaves has.
     pub const fn bytes(size: usize) -> usize {
         size.saturating_mul(64).saturating_sub(32)

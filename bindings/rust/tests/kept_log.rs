@@ -152,6 +152,37 @@ fn each_size() -> Result<(), LogError> {
 }
 
 #[test]
+fn joins() -> Result<(), LogError> {
+    let entries = entries(70);
+    let log_of = |entries: &[Vec<u8>]| -> Result<Log, LogError> {
+        let mut log = Log::new();
+        log.append(entries)?;
+        Ok(log)
+    };
+    for size in 0..65 {
+        for count in 0..=70 - size {
+            let (mut log, whole) = (log_of(&entries[..size])?, log_of(&entries[..size + count])?);
+            let joined = log.join(&log_of(&entries[size..size + count])?);
+            if size % count.next_power_of_two() != 0 {
+                assert!(matches!(joined, Err(LogError::Refused(Refused::Size))));
+                assert_eq!((log.len(), log.root(size)?), (size, whole.root(size)?));
+                continue;
+            }
+            assert_eq!((joined?, log.len()), (size + count, size + count));
+            assert!(log.check()?);
+            for at in 0..=size + count {
+                assert_eq!(log.root(at)?, whole.root(at)?);
+            }
+        }
+    }
+    let room = Room::new("joins");
+    let mut file = Log::open(room.log())?;
+    assert!(matches!(file.join(&Log::new()), Err(LogError::Io(_))));
+    assert!(matches!(Log::new().join(&file), Err(LogError::Io(_))));
+    Ok(())
+}
+
+#[test]
 fn refusals() -> Result<(), LogError> {
     let mut log = Log::new();
     assert!(log.is_empty());

@@ -133,6 +133,38 @@ fn each_byte_that_is_flipped_is_found() -> Result<(), Refused> {
 }
 
 #[test]
+fn joins() -> Result<(), Refused> {
+    let leaves: Vec<Vec<u8>> = (0..64).map(|i| vec![i as u8; i]).collect();
+    for trees in HASHINGS {
+        for size in [2, 4, 8, 16, 32, 64] {
+            for count in (0..7).map(|log2| 1 << log2) {
+                let parts: Result<Vec<_>, _> = leaves
+                    .chunks(size)
+                    .take(count)
+                    .map(|share| Tree::build(trees, share))
+                    .collect();
+                let (parts, all) = (parts?, &leaves[..(size * count).min(64)]);
+                let whole = Tree::build(trees, all)?.into_memory();
+                assert_eq!(Tree::join(trees, &parts)?.into_memory(), whole);
+            }
+        }
+        let (small, large) = (
+            Tree::build(trees, &leaves[..2])?,
+            Tree::build(trees, &leaves[..4])?,
+        );
+        let refused = |parts: &[Tree<Vec<u8>>]| Tree::join(trees, parts).map(Tree::into_memory);
+        assert_eq!(refused(&[]), Err(Refused::Size));
+        assert_eq!(
+            refused(&[small.clone(), small.clone(), small.clone()]),
+            Err(Refused::Size)
+        );
+        assert_eq!(refused(&[small.clone(), large.clone()]), Err(Refused::Size));
+        assert_eq!(refused(&[large, small]), Err(Refused::Size));
+    }
+    Ok(())
+}
+
+#[test]
 fn refusals() -> Result<(), Refused> {
     for trees in HASHINGS {
         for count in [0, 1, 3, 5, 6, 7] {
