@@ -21,4 +21,4 @@ pub mod Growths
 pub mod Refusals
 pub mod Verdicts
 mod Sounding
-mod Recovering
+pub mod Recovering

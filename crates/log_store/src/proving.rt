@@ -297,6 +297,9 @@ pub fn consistency<D: Disk>(
     ensures root { D.Obeys disk.now → (leaves : List Digest) → IsLogFile leaves (D.seen disk.now)
         → IfOk result (λ proof. (proof.size ≡ unwrap_or named (length leaves))
         × (merkle_tree_hash node_of (sha256 []) (take proof.size leaves) ≡ Ok proof.root)) }
+    ensures old_root { D.Obeys disk.now → (leaves : List Digest)
+        → IsLogFile leaves (D.seen disk.now) → IfOk result (λ proof.
+        merkle_tree_hash node_of (sha256 []) (take old_size leaves) ≡ Ok proof.old_root) }
 
     // Of every file: the proof is accepted under the roots that are returned; if the new one is the root of all entries, a slot
     // states it or none.

@@ -69,3 +69,11 @@ returns-in-Ok-false-clause-refused g c = λ obeys. inr (inr (
       (sym c.deref.ensures.value)
       ∙ c.in-Ok-false.ensures.verdict) c.in-Ok-false.field-0-test,
 ))
+
+pub returns-in-Ok-true-clause-old_root : goal.returns-in-Ok-true-clause-old_root
+returns-in-Ok-true-clause-old_root g c = λ obeys leaves log.
+    let first = c.in_ok-front.ensures.root obeys leaves log in
+    let size = c.in_ok-front.front.size in
+    let older : c.args.old_size ≤ size = omega (arith, c.if-size-old_size.false) in
+    c.in-Ok-root_at.ensures obeys leaves (omega (arith, older, first.1))
+    (omega (arith, c.in_ok-front.ensures.inside obeys, count-rises c.args.old_size size older)) log.keeps
