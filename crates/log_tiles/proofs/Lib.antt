@@ -1,4 +1,6 @@
 mod Audited
+mod Completed
+mod TiledFiles
 mod Bundled
 mod Fronts
 mod Followed

@@ -9,10 +9,11 @@ use Rattle.merkle_log.specs.Log.{merkle_tree_hash}
 use Rattle.log_tiles.specs.Tiles.{row_length, tile_in, width_in, IsTileOf}
 use Rattle.log_tiles.specs.declared.tile.Tile.{Tile}
 
--- the tiles of a log, and its size
+-- the tiles of a log, its size and its root
 pub record TiledValue (T : Type 0) : Type 0 where
   pub tiles : T
   pub size : ℕ
+  pub root : Digest
 
 -- A tile has as many digests as it is asked for.
 abbrev pub IsWholeTile : (Tile → List Digest) → Tile → Type 0

@@ -10,3 +10,4 @@ pub mod Quorums
 pub mod Tiles
 pub mod Ways
 pub mod Led
+pub mod Tiled

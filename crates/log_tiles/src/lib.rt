@@ -24,7 +24,7 @@ pub use follower::{Unmoved, follow};
 pub use following::{Head, audit, continues, prove_in_tiles};
 pub use growth::{new_tiles, row_length};
 pub use head_file::{HeadFile, HeldHead};
-pub use laws::{accepted_are_of_one_log, quorums_meet, smaller_begins_larger};
+pub use laws::{accepted_are_of_one_log, quorums_meet, smaller_begins_larger, tiles_are_of_a_log};
 pub use names::{bundle_name, tile_name};
 pub use publication::{Unwritten, put_checkpoint, write_each};
 pub use tile::{FULL, Tile, read_tile, width_of};

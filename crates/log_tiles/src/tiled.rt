@@ -1,15 +1,20 @@
 //! A log that is read of its tiles: the disk on which its file would lie.
 
-ghost use Rattle.std.specs.Prelude.{◌≡◌, ◌<◌, ◌≤◌, ◌+◌, ◌/◌, ◌%◌, ◌^◌, ℕ, List, [], true, length, take, drop, get_or, IfOk, MatchOption, OnOk, Ok};
+ghost use Rattle.std.specs.Prelude.{◌≡◌, ◌<◌, ◌≤◌, ◌+◌, ◌*◌, ◌/◌, ◌%◌, ◌^◌, ◌++◌, ℕ, List, [], true, length, take, drop, get_or, IfOk, MatchOption, OnOk, Err, Ok};
+ghost use Rattle.std.specs.List.{flat_map};
 ghost use Rattle.std.specs.Bool.{Decides};
 ghost use Rattle.sha2.specs.Sha256.{sha256};
+ghost use Rattle.ark_base.specs.Digits.{itself};
 ghost use Rattle.ark_paths.specs.Pair.{Digest};
 ghost use Rattle.ark_trees.specs.Rfc6962.{node_of};
 ghost use Rattle.log_tiles.specs.Audit.{with_rest, roots_in, row_in, rows_over, tile_at, tile_of, AreRoots, AreRowsOf, AreWholeTiles, IsWholeTile};
+ghost use Rattle.log_tiles.specs.Tiled.{tiled_digests, tiled_file, HaveDigests};
 ghost use Rattle.log_tiles.specs.Tiles.{row_length};
+ghost use Rattle.log_tiles.specs.declared.tiled.Unread.TheVariants.{Place};
 ghost use Rattle.log_tiles.specs.declared.tile.Tile.{Tile};
 ghost use Rattle.merkle_log.specs.Asked.{IsPeak};
 ghost use Rattle.merkle_log.specs.Log.{merkle_tree_hash};
+ghost use Rattle.merkle_log.specs.Stored.{stored_count};
 ghost use Rattle.merkle_log.specs.Walk.{index_up};
 
 use crate::following::are_same;
@@ -66,12 +71,42 @@ fn joined_peak(peak: [u8; 32], last: &Option<[u8; 32]>) -> [u8; 32]
     }
 }
 
+// Returns the leaf that completes the place whose digest stands at a position of the list of a log of this size: the last one
+// before which no more digests are stored than stand before the position.
+fn completing_leaf(size: usize, position: usize) -> usize
+    requires fits { size < 2 ^ 57 }
+    requires inside { position < stored_count size }
+    ensures inside { result < size }
+    ensures from { stored_count result ≤ position }
+    ensures below { position < stored_count (result + 1) }
+{
+    let mut first = 0;
+    let mut end = size;
+    'halves: while end - first > 1 {
+        let middle = first + (end - first) / 2;
+        if stored_count(middle) <= position {
+            first = middle;
+        } else {
+            end = middle;
+        }
+    }
+    first
+}
+
+// Writes a digest to a place of a buffer.
+fn put_digest_bytes(into: &mut [u8], at: usize, digest: &[u8; 32])
+    requires { at + 32 ≤ length into.old }
+    ensures { take (at + 32) into.new ≡ take at into.old ++ digest.now }
+{
+    into[at..at + 32].copy_from_slice(digest);
+}
+
 /// The log of a size and a root whose digests lie in tiles, as the file that it would have.
 #[derive(Drop)]
 pub struct TileDisk<T: Tiles + Drop> {
     tiles: T,
     size: usize,
-    head: [u8; START],
+    root: [u8; 32],
 }
 
 impl<T: Tiles + Drop> Model for TileDisk<T> {
@@ -83,6 +118,7 @@ impl<T: Tiles + Drop> Model for TileDisk<T> {
     ghost view = { λ disk. record {
       tiles = disk.tiles;
       size = disk.size;
+      root = disk.root;
     } };
 
     ghost invariant = { λ disk. disk.size < 2 ^ 57 };
@@ -92,7 +128,7 @@ impl<T: Tiles + Drop> TileDisk<T> {
     /// Takes the tiles of a log of this size and root; `None` for a size of 2^57 and above, whose file no disk has.
     pub fn new(tiles: T, size: usize, root: &[u8; 32]) -> Option<TileDisk<T>>
         ensures { MatchOption result (2 ^ 57 ≤ size)
-            (λ disk. disk ≡ record { tiles = tiles; size = size }) }
+            (λ disk. disk ≡ record { tiles = tiles; size = size; root = root.now }) }
     {
         if size >= 144_115_188_075_855_872 {
             return None;
@@ -100,7 +136,7 @@ impl<T: Tiles + Drop> TileDisk<T> {
         Some(TileDisk {
             tiles,
             size,
-            head: head_bytes(size, root),
+            root: *root,
         })
     }
 
@@ -266,41 +302,56 @@ impl<T: Tiles + Drop> TileDisk<T> {
     }
 
     // Reads the digest at a position of the log's list.
-    fn digest_at(&self, position: usize) -> Result<[u8; 32], Unread<T::Refusal>> {
-        let mut last = position / 2;
-        'entries: for _step in 0..64 {
-            if last < self.size && stored_count(last + 1) <= position {
-                last += 1;
-            }
-        }
-        if last >= self.size {
+    fn digest_at(&self, position: usize) -> Result<[u8; 32], Unread<T::Refusal>>
+        ensures digest { T.Obeys self.now.tiles → IfOk result (λ digest. digest
+            ≡ get_or (tiled_digests (T.has self.now.tiles) self.now.size) position []) }
+        ensures place { result ≡ Err Place → stored_count self.now.size ≤ position }
+    {
+        let size = self.size();
+        if stored_count(size) <= position {
             return Err(Unread::Place);
         }
-        let level = position.saturating_sub(stored_count(last));
-        if level >= 64 {
-            return Err(Unread::Place);
-        }
-        match self.digest_of(level, ((last + 1) >> level).saturating_sub(1)) {
+        let leaf = completing_leaf(size, position);
+        let level = position - stored_count(leaf);
+        match self.digest_of(level, leaf >> level) {
             Ok(digest) => Ok(digest),
             Err(refusal) => Err(Unread::Tile(refusal)),
         }
+    }
+
+    // Reads the digests from a position of the log's list on, one behind the other.
+    fn read_list(&self, position: usize, into: &mut [u8]) -> Result<(), Unread<T::Refusal>>
+        requires { length into.old % 32 ≡ 0 }
+        ensures { T.Obeys self.now.tiles → HaveDigests (T.has self.now.tiles) self.now.size
+            → 32 * position + length into.old
+            ≤ 32 * stored_count self.now.size → OnOk result (into.new ≡ take (length into.old)
+            (drop (32 * position) (flat_map itself (tiled_digests (T.has self.now.tiles) self.now.size)))) }
+    {
+        // Its size has at most 57 bits, so that the sum is not cut.
+        let _ = &self.size;
+        'digests: for place in 0..into.len() / 32 {
+            let digest = self.digest_at(position.saturating_add(place))?;
+            put_digest_bytes(into, 32 * place, &digest);
+        }
+        Ok(())
     }
 }
 
 impl<T: Tiles + Drop> Disk for TileDisk<T> {
     type Refusal = Unread<T::Refusal>;
 
-    ghost Obeys = { λ _. ⊥ };
+    ghost Obeys = { λ disk. T.Obeys disk.tiles × HaveDigests (T.has disk.tiles) disk.size };
 
-    ghost seen = { λ _. [] };
+    ghost seen = { λ disk. tiled_file (T.has disk.tiles) disk.size disk.root };
 
-    ghost may_leave = { λ _ _. ⊥ };
+    ghost may_leave = { λ disk left. left ≡ tiled_file (T.has disk.tiles) disk.size disk.root };
 
     ghost fresh = { λ _ _ _. ⊥ };
 
     ghost moment = { λ _. 0 };
 
-    ghost left_since = { λ _ _ _. ⊥ };
+    ghost left_since = { λ disk _ left.
+        left ≡ tiled_file (T.has disk.tiles) disk.size disk.root };
 
     ghost counts_now = { λ _ _ _ _ now. now };
 
@@ -312,18 +363,13 @@ impl<T: Tiles + Drop> Disk for TileDisk<T> {
 
     fn read_at(&self, at: usize, into: &mut [u8]) -> Result<(), Unread<T::Refusal>> {
         if at == 0 && into.len() == START {
-            into.copy_from_slice(&self.head);
+            into.copy_from_slice(&head_bytes(self.size, &self.root));
             return Ok(());
         }
         if at < START || (at - START) % 32 != 0 || into.len() % 32 != 0 {
             return Err(Unread::Place);
         }
-        let first = (at - START) / 32;
-        'digests: for place in 0..into.len() / 32 {
-            let digest = self.digest_at(first.saturating_add(place))?;
-            into[32 * place..32 * place + 32].copy_from_slice(&digest);
-        }
-        Ok(())
+        self.read_list((at - START) / 32, into)
     }
 
     fn write_at(&mut self, _at: usize, _bytes: &[u8]) -> Result<(), Unread<T::Refusal>> {
