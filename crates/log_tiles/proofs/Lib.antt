@@ -1,5 +1,6 @@
 mod Audited
 mod Completed
+mod Honest
 mod TiledFiles
 mod Bundled
 mod Fronts

@@ -18,7 +18,7 @@ use Rattle.log_tiles.specs.declared.unfollowed.Unfollowed.{Unfollowed}
 use Rattle.log_tiles.specs.declared.unfollowed.Unfollowed.TheVariants.{Stopped}
 
 -- A size and a root are those of the log of a file.
-abbrev AreOwn : List ℕ → ℕ → Digest → Type 0
+abbrev pub AreOwn : List ℕ → ℕ → Digest → Type 0
 AreOwn file size root = (leaves : List Digest) → IsLogFile leaves file → (size ≡ length leaves)
     × (merkle_tree_hash node_of (sha256 []) (take size leaves) ≡ Ok root)
 

@@ -1,6 +1,6 @@
 -- What a step of a follower does to the file that states its head.
 use Rattle.std.specs.Prelude.{◌≡◌, ◌⊎◌, ◌≤◌, ℕ, Bool, true, List}
-use Rattle.log_tiles.specs.Following.{Continues, IsUncontinued}
+use Rattle.log_tiles.specs.Following.{Continues, IsHindered, IsUncontinued}
 use Rattle.log_tiles.specs.declared.follower.Unmoved.{Unmoved}
 use Rattle.log_tiles.specs.declared.follower.Unmoved.TheVariants.{File, Unfollowed}
 use Rattle.log_tiles.specs.declared.following.Head.{Head}
@@ -38,3 +38,8 @@ IsUnmoved file old new (File refusal) = Unit {0}
 abbrev pub IsUnfollowed : {R W : Type 0} → Unmoved R W → Type 0
 IsUnfollowed (Unfollowed held why) = Unit {0}
 IsUnfollowed (File refusal) = ⊥
+
+-- A follower did not move on for want of memory, or since the disk or its file refused a call.
+abbrev pub IsHinderedStep : {R W : Type 0} → Unmoved R W → Type 0
+IsHinderedStep (Unfollowed held why) = IsHindered why
+IsHinderedStep (File refusal) = Unit {0}

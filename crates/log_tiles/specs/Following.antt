@@ -5,9 +5,9 @@ use Rattle.ark_trees.specs.Rfc6962.{node_of}
 use Rattle.merkle_log.specs.Bind.{BindsFront}
 use Rattle.merkle_log.specs.Verdict.{consistency_verdict}
 use Rattle.log_file.specs.Faults.{of_first}
-use Rattle.log_file.specs.declared.fault.Fault.TheVariants.{Damaged}
+use Rattle.log_file.specs.declared.fault.Fault.TheVariants.{Damaged, Memory}
 use Rattle.log_store.specs.Refused.{index_outcome, older_outcome, IsNotOf, IsRefusedFor}
-use Rattle.log_store.specs.declared.stop.Stop.TheVariants.{Fault}
+use Rattle.log_store.specs.declared.stop.Stop.TheVariants.{Disk, Fault}
 use Rattle.log_tiles.specs.declared.following.Head.{Head}
 use Rattle.log_tiles.specs.declared.unfollowed.Unfollowed.{Unfollowed}
 use Rattle.log_tiles.specs.declared.unfollowed.Unfollowed.TheVariants.{Shrunk, Fork, Stopped}
@@ -44,3 +44,10 @@ IsUncontinued file old new Fork = IsFork old new
 IsUncontinued file old new (Stopped stop) = IsRefusedFor {A = ℕ} file (of_first file None Ok) (Err stop)
     ⊎ IsRefusedFor {A = ℕ} file (older_outcome file None old.size) (Err stop)
     ⊎ (stop ≡ Fault Damaged) × IsNotOf file new.size new.root
+
+-- A call stopped for want of memory, or since the disk refused a call.
+abbrev pub IsHindered : {R : Type 0} → Unfollowed R → Type 0
+IsHindered Shrunk = ⊥
+IsHindered Fork = ⊥
+IsHindered (Stopped (Fault fault)) = fault ≡ Memory
+IsHindered (Stopped (Disk refusal)) = Unit {0}

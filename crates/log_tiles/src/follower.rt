@@ -1,7 +1,10 @@
 //! A step of a follower: from the head at which it was left to a new one.
 
-ghost use Rattle.std.specs.Prelude.{◌≡◌, is_ok, IfErr};
-ghost use Rattle.log_tiles.specs.Followers.{IsMove, IsUnfollowed, IsUnmoved};
+ghost use Rattle.std.specs.Prelude.{◌≡◌, List, is_ok, take, IfErr};
+ghost use Rattle.ark_paths.specs.Pair.{Digest};
+ghost use Rattle.log_file.specs.LogFile.{IsLogFile};
+ghost use Rattle.log_tiles.specs.Followers.{IsHinderedStep, IsMove, IsUnfollowed, IsUnmoved};
+ghost use Rattle.log_tiles.specs.Ways.{IsLogOf};
 
 use crate::following::{Head, continues};
 use crate::head_file::HeadFile;
@@ -38,6 +41,12 @@ pub fn follow<D: Disk, F: HeadFile>(
     ensures refused { F.Obeys file.new → D.Obeys disk.now → IfErr result
         (IsUnmoved (D.seen disk.now) (F.holds file.old) new.now) }
     ensures kept { IfErr result (λ why. IsUnfollowed why → file.new ≡ file.old) }
+
+    // A log whose first entries are the log of the head that the file stated is followed.
+    ensures honest { F.Obeys file.new → D.Obeys disk.now → (leaves : List Digest)
+        → IsLogFile leaves (D.seen disk.now) → IsLogOf new.now leaves
+        → IsLogOf (F.holds file.old) (take (F.holds file.old).size leaves)
+        → IfErr result IsHinderedStep }
 {
     let old = match file.read() {
         Ok(old) => old,

@@ -1,10 +1,13 @@
 //! Followers of a log: whoever keeps its last size and root, and moves on by its tiles.
 
-ghost use Rattle.std.specs.Prelude.{◌≡◌, ◌≢◌, ◌<◌, true, false, IfOk, IfErr, IsErr, IsOk, OnOk, Ok, Err};
+ghost use Rattle.std.specs.Prelude.{◌≡◌, ◌≢◌, ◌<◌, List, take, true, false, IfOk, IfErr, IsErr, IsOk, OnOk, Ok, Err};
 ghost use Rattle.std.specs.Bool.{Decides};
+ghost use Rattle.ark_paths.specs.Pair.{Digest};
 ghost use Rattle.ark_trees.specs.Rfc6962.{node_of};
+ghost use Rattle.log_file.specs.LogFile.{IsLogFile};
 ghost use Rattle.log_tiles.specs.Audit.{AreTilesOf};
-ghost use Rattle.log_tiles.specs.Following.{Continues, IsFork, IsUncontinued, IsUnproved};
+ghost use Rattle.log_tiles.specs.Following.{Continues, IsFork, IsHindered, IsUncontinued, IsUnproved};
+ghost use Rattle.log_tiles.specs.Ways.{IsLogOf};
 ghost use Rattle.log_tiles.specs.declared.unfollowed.Unfollowed.TheVariants.{Fork, Shrunk, Stopped};
 ghost use Rattle.merkle_log.specs.Verdict.{inclusion_verdict};
 
@@ -65,6 +68,11 @@ pub fn prove_in_tiles<D: Disk>(
     ensures refused { D.Obeys disk.now
         → IfErr result (IsUnproved (D.seen disk.now) head.now index) }
     ensures followed { IfErr result (λ why. (why ≢ Fork) × (why ≢ Shrunk)) }
+
+    // An entry of the head's own log has a proof.
+    ensures honest { D.Obeys disk.now → (leaves : List Digest)
+        → IsLogFile leaves (D.seen disk.now) → IsLogOf head.now leaves → index < head.now.size
+        → IfErr result IsHindered }
 {
     match log_store::prove(alloc, disk, index, None) {
         Ok(proof) => {
@@ -98,6 +106,11 @@ pub fn continues<D: Disk>(
 
     // No log has both: the new one has another root of the old size.
     ensures fork { result ≡ Err Fork → IsFork old.now new.now }
+
+    // A log whose first entries are the old log continues it.
+    ensures honest { D.Obeys disk.now → (leaves : List Digest)
+        → IsLogFile leaves (D.seen disk.now) → IsLogOf new.now leaves
+        → IsLogOf old.now (take old.now.size leaves) → IfErr result IsHindered }
 {
     if new.size < old.size {
         return Err(Unfollowed::Shrunk);

@@ -1,6 +1,7 @@
-use Rattle.std.proofs.Common.{inl, inr, refl, subst}
+use Rattle.std.proofs.Common.{inl, inr, refl, subst, arith}
 use Rattle.std.proofs.lemmas.Result.{err_from_is_err_and}
 use Rattle.log_tiles.specs.Following.{IsShown}
+use Rattle.log_tiles.proofs.Honest.{front-root, hindered-first, hindered-older, hindered-same, own-head}
 use Rattle.log_tiles.proofs.Shown.{shown}
 use Rattle.log_tiles.proofs.OtherLogs.{if-uncontinued, not-of, uncontinued}
 use Rattle.log_tiles.proofs.following.continues.Goals as goal
@@ -50,3 +51,30 @@ returns-in_err-if_same-clause-refused g c = λ obeys.
 
 pub returns-clause-refused : goal.returns-clause-refused
 returns-clause-refused g c = λ obeys. returns-clause-fork g c refl
+
+pub returns-in-Err-clause-honest : goal.returns-in-Err-clause-honest
+returns-in-Err-clause-honest g c = λ obeys leaves log own front.
+    hindered-first leaves (g.D.Disk.seen c.args.disk.now) log c.in-Err.stop (c.in-Err.ensures.refused obeys)
+
+pub returns-then-old-eq0-clause-honest : goal.returns-then-old-eq0-clause-honest
+returns-then-old-eq0-clause-honest g c = λ obeys leaves log own front.
+    hindered-same leaves (g.D.Disk.seen c.args.disk.now) log c.args.new.now own c.if_same.result
+    (λ others file. let known = c.in-Ok.ensures.root obeys others file in (known.0, known.2)) c.if_same.ensures.other
+
+pub returns-in-Err-consistency-clause-honest : goal.returns-in-Err-consistency-clause-honest
+returns-in-Err-consistency-clause-honest g c = λ obeys leaves log own front.
+    hindered-older leaves c.args.old.now c.args.new.now own front log c.in-Err-consistency.stop
+    (omega (arith, c.if-old-eq0.false)) (c.in-Err-consistency.ensures.refused obeys)
+
+pub returns-in_err-if_same-clause-honest : goal.returns-in_err-if_same-clause-honest
+returns-in_err-if_same-clause-honest g c = λ obeys leaves log own front.
+    absurd (own-head leaves (g.D.Disk.seen c.args.disk.now) log c.args.new.now own
+    (c.in-Ok-consistency.ensures.root obeys) (c.in_err-if_same.ensures.other refl))
+
+pub returns-clause-honest : goal.returns-clause-honest
+returns-clause-honest g c = λ obeys leaves log own front.
+    let same = front-root leaves c.args.old.now c.args.new.now own front
+    (c.in-Ok-consistency.ensures.old_root obeys leaves log) in
+    let yes = c.are_same-2.ensures.1 same in
+    let no = c.if-are_same-2.false in
+    cc
