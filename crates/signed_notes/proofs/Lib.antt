@@ -13,3 +13,4 @@ pub mod Opened
 pub mod Joined
 pub mod Known
 mod Pieces
+mod Listed

@@ -13,3 +13,5 @@ pub mod Checkpoints
 pub mod Views
 pub mod PolicyFiles
 pub mod PolicyViews
+pub mod LogLists
+pub mod LogListViews

@@ -1,10 +1,11 @@
 //! What is proved of notes. Each function is one theorem: its contract states it, and its body does nothing.
 
-ghost use Rattle.std.specs.Prelude.{◌≡◌, ◌∷◌, ℕ, Bool, List, All, Contains, Ok};
+ghost use Rattle.std.specs.Prelude.{◌≡◌, ◌∷◌, ℕ, Bool, List, All, Contains, Ok, Some};
 ghost use Rattle.base64.specs.GeneralPurpose.{IsBytes};
 ghost use Rattle.signed_notes.specs.Checkpoints.{checkpoint_of, read_checkpoint, write_checkpoint, CheckpointParts, IsCheckpoint};
 ghost use Rattle.signed_notes.specs.Counting.{lists_key, keys_once, AreOtherKeys};
 ghost use Rattle.signed_notes.specs.Keys.{IsNoteKey, key_text, read_key, KeyParts};
+ghost use Rattle.signed_notes.specs.LogLists.{log_of_origin, read_logs, ListedParts};
 ghost use Rattle.signed_notes.specs.Notes.{AreSignatureBytes, IsNote, note_of, NoteParts};
 ghost use Rattle.signed_notes.specs.Reading.{read_note};
 ghost use Rattle.signed_notes.specs.Writing.{write_note};
@@ -62,4 +63,11 @@ pub fn checkpoints_are_read_back()
 pub fn checkpoints_have_one_spelling()
     ensures { (text : List ℕ) (c : CheckpointParts) → IsBytes text → read_checkpoint text ≡ Ok c
         → (checkpoint_of c ≡ text) × IsCheckpoint c }
+{}
+
+/// States that each log of a list is the first one of its origin, so that no other log of the list is found in its place.
+pub fn listed_logs_are_found()
+    ensures { (text : List ℕ) (logs : List ListedParts) (log : ListedParts)
+        → read_logs text ≡ Ok logs → Contains logs log
+        → log_of_origin logs log.origin ≡ Some log }
 {}
