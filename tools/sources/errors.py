@@ -14,6 +14,7 @@ WORDS = {
     "FileGivesBy": "the error is the outcome's or a lack of memory (log_file, Faults)",
     "NoteGivesBy": "the error is the outcome's or a lack of memory (signed_notes, Faults)",
     "SaysBy": "the error, with its line, is the outcome's or a lack of memory (signed_notes, PolicyFiles)",
+    "ListsBy": "the error, with its line, is the outcome's or a lack of memory (signed_notes, LogLists)",
     "PolicyGivesBy": "the error is the outcome's or a lack of memory (signed_notes, PolicyFiles)",
     "CallGivesBy": "the error is the outcome's or a lack of memory (paxidore_calls, Answer)",
     "RaisesNeeded": "the error stands for a refusal of the hash or for a lack of memory (merkle_log, Edge)",

@@ -2,3 +2,4 @@ pub mod ReceiptTexts
 mod OneReading
 mod HeldKeys
 mod Denying
+mod Choosing

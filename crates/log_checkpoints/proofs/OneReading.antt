@@ -1,5 +1,5 @@
 -- A receipt has one reading, and so one verdict.
-use Rattle.std.proofs.Common.{◌≡◌, ◌<◌, ℕ, List, [], ◌∷◌, ◌++◌, length, drop, codes, Option, Some, None, IfSome, Ok, true, false, refl, inl, inr, ap, ap₂, sym, subst, ◌∙◌, append_assoc, arith}
+use Rattle.std.proofs.Common.{◌≡◌, ◌<◌, ◌^◌, ℕ, List, [], ◌∷◌, ◌++◌, length, drop, codes, Option, Some, None, IfSome, Ok, true, false, refl, inl, inr, ap, ap₂, sym, subst, ◌∙◌, append_assoc, arith}
 use Rattle.std.proofs.lemmas.Bool.{cases_lt, false≢true, le-ltb}
 use Rattle.std.specs.Fmt.{decimal}
 use Rattle.std.specs.List.{AllByRecursion}
@@ -14,7 +14,7 @@ use Rattle.ark_trees.specs.Rfc6962.{entry_hash, node_of}
 use Rattle.decimals.specs.Decimals.{decimal_number}
 use Rattle.merkle_log.specs.Verdict.{inclusion_verdict}
 use Rattle.merkle_log.proofs.Verdicts.{inclusion-bound}
-use Rattle.log_checkpoints.specs.Receipts.{extra_line, numbered, HasBadExtra, IsBehindExtra, IsReceipt, IsReceiptOf, IsUnaccepted, LeadsElsewhere, ShowsEntry}
+use Rattle.log_checkpoints.specs.Receipts.{extra_line, numbered, HasBadExtra, IsBehindExtra, IsPath, IsReceipt, IsReceiptOf, IsUnaccepted, LeadsElsewhere, ShowsEntry}
 use Rattle.log_checkpoints.specs.declared.receipts.ReceiptFault.{ReceiptFault}
 use Rattle.log_checkpoints.specs.declared.receipts.ReceiptFault.TheVariants.{Note}
 use Rattle.log_checkpoints.proofs.ReceiptTexts.{index-line, lined, lined-cut, never-both, never-none, one-rest}
@@ -28,7 +28,7 @@ use Rattle.signed_notes.proofs.Lacking.{lacks-base64}
 use Rattle.signed_notes.proofs.Opened.{never-closed, one-checkpoint, one-value}
 use Rattle.signed_notes.proofs.WrittenNotes.{cut-written}
 
-one-some : {A : Type 0} (a b : A) (option : Option A) → option ≡ Some a → option ≡ Some b → a ≡ b
+pub one-some : {A : Type 0} (a b : A) (option : Option A) → option ≡ Some a → option ≡ Some b → a ≡ b
 one-some a b option is too = let both = sym is ∙ too in cc
 
 -- Base64 spells one list of bytes.
@@ -57,6 +57,18 @@ one-path (d ∷ p) (e ∷ q) m n are too same =
     (sym (lined-cut d p m) ∙ ap (cut 10) same ∙ lined-cut e q n) in
     let rest = one-path p q m n are.1 too.1 both.1 in
     (ap₂ (λ x xs. x ∷ xs) (one-word d e are.0.1 too.0.1 both.0) rest.0, rest.1)
+
+-- A number, a path and a note have one reading.
+pub one-numbered : (i j : ℕ) (p q : List Digest) (m n : List ℕ) → i < 2 ^ 64 → j < 2 ^ 64 → IsPath p → IsPath q
+    → numbered i p m ≡ numbered j q n → (i ≡ j) × (p ≡ q) × (m ≡ n)
+one-numbered i j p q m n fits too are those same =
+    let both = cut_parts (decimal i) (lined p m) (decimal j) (lined q n)
+    (sym (index-line i p m fits) ∙ ap (cut 10) same ∙ index-line j q n too) in
+    let path = one-path p q m n are.1 those.1 both.1 in (
+      one-some i j (decimal_number (decimal i)) (number-read i fits) (ap decimal_number both.0 ∙ number-read j too),
+      path.0,
+      path.1,
+    )
 
 -- What begins with a line of further bytes, or not as one, has one such line and one rest.
 pub one-extra : (e f : Option (List ℕ)) (bytes rest behind : List ℕ) → IsBehindExtra e rest bytes → IfSome f IsBytes
@@ -128,15 +140,8 @@ one-reading e f i j p q m n bytes first second =
     (behind-extra e (numbered i p m) first.extra_is) second.extra_is
     (untitled f j q n bytes rest second first.spelled) in
     let same = one-rest (codes "index ") (numbered i p m) (numbered j q n) extra.1 in
-    let both = cut_parts (decimal i) (lined p m) (decimal j) (lined q n)
-    (sym (index-line i p m first.fits) ∙ ap (cut 10) same ∙ index-line j q n second.fits) in
-    let path = one-path p q m n first.path_is.1 second.path_is.1 both.1 in (
-      one-some i j (decimal_number (decimal i)) (number-read i first.fits)
-          (ap decimal_number both.0 ∙ number-read j second.fits),
-      path.0,
-      path.1,
-      extra.0,
-    )
+    let parts = one-numbered i j p q m n first.fits second.fits first.path_is second.path_is same in
+    (parts.0, parts.1, parts.2, extra.0)
 
 -- ---- what is shown
 

@@ -1,5 +1,5 @@
 -- Requests of logs that a witness adds a checkpoint, and its replies, as C2SP's tlog-witness has them.
-use Rattle.std.specs.Prelude.{◌≡◌, ◌≢◌, ◌⊎◌, ℕ, ◌<◌, ◌^◌, List, [], ◌∷◌, ◌++◌, Option, Some, None, Result, Ok, Err, codes}
+use Rattle.std.specs.Prelude.{◌≡◌, ◌≢◌, ◌⊎◌, ℕ, ◌<◌, ◌^◌, List, [], ◌∷◌, ◌++◌, Contains, Option, Some, None, Result, Ok, Err, codes}
 use Rattle.std.specs.Fmt.{decimal}
 use Rattle.ark_base.specs.Outcome.{◌>>=◌}
 use Rattle.ark_paths.specs.Pair.{Digest}
@@ -18,6 +18,7 @@ use Rattle.log_tiles.specs.declared.by_proof.ProofFault.TheVariants.{Fork, Path,
 use Rattle.log_tiles.specs.declared.following.Head.{Head}
 use Rattle.signed_notes.specs.Checkpoints.{CheckpointParts, read_checkpoint}
 use Rattle.signed_notes.specs.Keys.{KeyParts}
+use Rattle.signed_notes.specs.LogLists.{ListedParts}
 use Rattle.signed_notes.specs.Opening.{IsClosed, IsOpened}
 use Rattle.signed_notes.specs.Reading.{read_note}
 use Rattle.signed_notes.specs.Verifying.{cosigned_by}
@@ -128,6 +129,34 @@ IsLineFault w time request fault = (fault ≡ Memory) ⊎ ((old : ℕ) × (path 
 abbrev pub IsUnprepared : WitnessParts → ℕ → List ℕ → Unprepared → Type 0
 IsUnprepared w time request (Rejected why) = (held : Head) → IsDenied w held request why
 IsUnprepared w time request (Failed fault) = IsLineFault w time request fault
+
+-- A request is of an origin: its note states a checkpoint of it, whoever signed it.
+pub record IsOfOrigin (origin request : List ℕ) : Type 0 where
+  pub old : ℕ
+  pub path : List Digest
+  pub note : List ℕ
+  pub stated : CheckpointParts
+  pub read : IsAdding old path note request
+  pub states : unsigned_in note ≡ Ok stated
+  pub origin_is : stated.origin ≡ origin
+
+-- Why a request is of no origin: it is denied for this reason whoever the witness is and whatever it signed last; or
+-- memory was refused.
+abbrev pub IsOfNoOrigin : List ℕ → Unprepared → Type 0
+IsOfNoOrigin request (Rejected why) = (w : WitnessParts) (held : Head) → IsDenied w held request why
+IsOfNoOrigin request (Failed fault) = fault ≡ Memory
+
+-- Why a request is of none of some logs: it is denied for this reason by a witness of each, whatever it signed last; or
+-- memory was refused.
+abbrev pub IsOfNoLog : List ListedParts → List ℕ → Unprepared → Type 0
+IsOfNoLog logs request (Rejected why) = (log : ListedParts) (w : WitnessParts) (held : Head) → Contains logs log
+    → w.origin ≡ log.origin → IsDenied w held request why
+IsOfNoLog logs request (Failed fault) = fault ≡ Memory
+
+-- No witness of an origin denies a request because its origin is unknown.
+abbrev pub NeverUnknown : List ℕ → List ℕ → Type 0
+NeverUnknown origin request = (w : WitnessParts) (held : Head) → w.origin ≡ origin
+    → IsDenied w held request UnknownOrigin → ⊥
 
 -- Why there is no reply.
 abbrev pub IsUnanswered : {W : Type 0} → WitnessParts → ℕ → List ℕ → Unanswered W → Type 0

@@ -1,21 +1,23 @@
 //! Requests of logs that a witness adds a checkpoint, and its replies (C2SP tlog-witness, add-checkpoint).
 
-ghost use Rattle.std.specs.Prelude.{◌≡◌, ℕ, List, vec_items, IfErr, IfOk, MatchOption, Ok};
+ghost use Rattle.std.specs.Prelude.{◌≡◌, ℕ, List, map, vec_items, Contains, IfErr, IfOk, MatchOption, Ok};
 ghost use Rattle.ark_paths.specs.Pair.{Digest};
-ghost use Rattle.log_checkpoints.specs.Adding.{conflict_bytes, cosigned_line, denial_bytes, line_in, reply_bytes, unsigned_in, IsAdding, IsDeniedReply, IsNoAdding, IsRejectedProof, IsStatedBy, IsUnanswered, IsUnopenedFor, IsUnprepared, IsUntouched, IsVouchedLine};
+ghost use Rattle.log_checkpoints.specs.Adding.{conflict_bytes, cosigned_line, denial_bytes, line_in, reply_bytes, unsigned_in, IsAdding, IsDeniedReply, IsNoAdding, IsOfNoLog, IsOfNoOrigin, IsOfOrigin, IsRejectedProof, IsStatedBy, IsUnanswered, IsUnopenedFor, IsUnprepared, IsUntouched, IsVouchedLine, NeverUnknown};
 ghost use Rattle.log_checkpoints.specs.Receipts.{IsMisspelled};
 ghost use Rattle.log_checkpoints.specs.Witnessing.{witness_parts, IsTurn};
 ghost use Rattle.log_tiles.specs.Led.{IsProofFault};
 ghost use Rattle.log_tiles.specs.declared.by_proof.ProofFault.TheVariants.{Memory as ProofMemory};
 ghost use Rattle.log_tiles.specs.declared.following.Head.{Head};
 ghost use Rattle.signed_notes.specs.Faults.{NoteGivesBy};
+ghost use Rattle.signed_notes.specs.LogListViews.{listed_parts};
 ghost use Rattle.signed_notes.specs.Views.{checkpoint_parts, cosigner_parts};
 
 use crate::receipts::{Numbered, ReceiptFault, numbered_in};
 use crate::witnessing::{Witness, head_of};
 use log_tiles::{Head, HeadFile, ProofFault, Unshown, follow_by_proof};
 use signed_notes::{
-    Checkpoint, Cosigner, Fault, cosignature_of, open_checkpoint, read, signature_line,
+    Checkpoint, Cosigner, Fault, ListedLog, cosignature_of, log_of_origin, open_checkpoint, read,
+    signature_line,
 };
 use std::alloc::{AllocError, Global};
 
@@ -91,6 +93,49 @@ fn cosigned_line(alloc: Global, bytes: &[u8], key: &Cosigner, time: u64) -> Resu
     let note = read(alloc, bytes)?;
     let signature = cosignature_of(alloc, key, time, note.text)?;
     signature_line(alloc, &signature)
+}
+
+// The origin of the checkpoint that the note of a request states, whoever signed it.
+fn origin_of_request(alloc: Global, request: &[u8]) -> Result<&str, Unprepared>
+    ensures found { IfOk result (λ origin. IsOfOrigin origin.now request.now) }
+    ensures refused { IfErr result (IsOfNoOrigin request.now) }
+{
+    let note = match read_adding(alloc, request) {
+        Ok(read) => read.note,
+        Err(ReceiptFault::Spelling) => return Err(Unprepared::Rejected(Denial::Malformed)),
+        Err(ReceiptFault::Note(fault)) => return Err(Unprepared::Failed(fault)),
+    };
+    match unsigned_in(alloc, note) {
+        Ok(stated) => Ok(stated.origin),
+        Err(Fault::Memory) => Err(Unprepared::Failed(Fault::Memory)),
+        Err(_) => Err(Unprepared::Rejected(Denial::Malformed)),
+    }
+}
+
+/// Returns of which log of a list a request is: its note states a checkpoint of the log's origin, whoever signed it.
+///
+/// Errors: `Malformed` where the bytes are no request, or the note states no checkpoint; `UnknownOrigin` where no log has its origin;
+/// `Memory`. The first two are what `answer_adding` replies for each log of the list, whatever was signed last.
+pub fn log_of_request<'a>(
+    alloc: Global,
+    request: &[u8],
+    logs: &[ListedLog<'a>],
+) -> Result<ListedLog<'a>, Unprepared>
+    ensures listed { IfOk result (λ log. Contains (map listed_parts logs.now) (listed_parts log)) }
+    ensures found { IfOk result (λ log. IsOfOrigin log.origin.now request.now) }
+
+    // No reply for this log is that its origin is unknown.
+    ensures known { IfOk result (λ log. NeverUnknown log.origin.now request.now) }
+    ensures refused { IfErr result (IsOfNoLog (map listed_parts logs.now) request.now) }
+{
+    let origin = match origin_of_request(alloc, request) {
+        Ok(origin) => origin,
+        Err(why) => return Err(why),
+    };
+    match log_of_origin(logs, origin) {
+        Some(log) => Ok(log),
+        None => Err(Unprepared::Rejected(Denial::UnknownOrigin)),
+    }
 }
 
 // Refuses a note that states no checkpoint, or one of another origin.

@@ -14,7 +14,9 @@ mod laws;
 mod receipts;
 mod witnessing;
 
-pub use adding::{Denial, OLD, Reply, Unanswered, answer_adding, write_reply};
+pub use adding::{
+    Denial, OLD, Reply, Unanswered, Unprepared, answer_adding, log_of_request, write_reply,
+};
 pub use laws::{quorums_of_keys_meet, receipts_have_one_reading, receipts_have_one_verdict};
 use log_store::{Disk, Stop, rewrite_head};
 pub use receipts::{
