@@ -359,6 +359,7 @@ def serves_tiles(room, notes):
     paxlog_policies.asks_by_policy(room, verifier, notes)
     paxlog_cosigning.joins_cosignatures(room, verifier, notes)
     paxlog_requests.replies(room, verifier, cosigner, notes)
+    paxlog_requests.many_logs(room, cosigner, notes)
     paxlog_folders.is_on_the_disk(room, verifier)
     paxlog_folders.keys_are_secret(room)
     paxlog_entries.keeps_entries_of_any_bytes(room, verifier, notes)

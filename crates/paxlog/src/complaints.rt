@@ -2,7 +2,7 @@
 
 use crate::folders::TileFault;
 use crate::stop::{Stop, StopAt};
-use crate::{checkpoints, signers, usage};
+use crate::{checkpoints, listing, signers, usage};
 use log_file::fault::Fault;
 use paxlog_run::request::{Misuse, bytes_at};
 use std::io::Write;
@@ -155,7 +155,15 @@ fn complain_of_use(rt: &HostRuntime, words: &[Vec<u8>], misuse: Misuse) -> u8 {
 
 /// Writes why there is no answer, and returns the status.
 pub fn complain(rt: &HostRuntime, words: &[Vec<u8>], stop: StopAt) -> u8 {
-    let StopAt { why, place } = stop;
+    let StopAt { why, place, name } = stop;
+    match name {
+        Some(name) => complain_of(rt, &[name.into_bytes()], why, Some(0)),
+        None => complain_of(rt, words, why, place),
+    }
+}
+
+// The same of the file that the word at a place names.
+fn complain_of(rt: &HostRuntime, words: &[Vec<u8>], why: Stop, place: Option<usize>) -> u8 {
     match why {
         Stop::Misuse(misuse) => complain_of_use(rt, words, misuse),
         Stop::NotText => complain_of_word(rt, words, place, "the name is no text"),
@@ -184,6 +192,13 @@ pub fn complain(rt: &HostRuntime, words: &[Vec<u8>], stop: StopAt) -> u8 {
         Stop::Policy(fault) => {
             let line = fault.line;
             let why = signers::reason(fault.why);
+            begin(rt, words, place);
+            let _ = eprintln!(rt; "line {line}: {why}");
+            REFUSED
+        }
+        Stop::Logs(fault) => {
+            let line = fault.line;
+            let why = listing::reason(fault.why);
             begin(rt, words, place);
             let _ = eprintln!(rt; "line {line}: {why}");
             REFUSED

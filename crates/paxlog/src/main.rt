@@ -12,6 +12,7 @@ mod folders;
 mod followers;
 mod input;
 mod keeping;
+mod listing;
 mod needing;
 mod patience;
 mod picture;
@@ -307,6 +308,7 @@ fn carry_out(rt: &HostRuntime, request: Request, words: &[Vec<u8>]) -> Result<u8
             state,
             keyed,
         } => signed::witness_reply(rt, words, signers, state, &keyed),
+        Request::WitnessLogs { logs, key_file } => listing::witness_logs(rt, words, logs, key_file),
         Request::Help { command } => help(rt, words, command),
         Request::Version => say(rt, VERSION.as_bytes()),
     }

@@ -4,8 +4,8 @@ use crate::folders::TileFault;
 use log_file::fault::Fault;
 use log_tiles::{Unfollowed, Unread};
 use paxlog_run::request::Misuse;
-use signed_notes::{PolicyFault, PolicyFaultAt};
-use std::alloc::{AllocError, AllocFailed};
+use signed_notes::{LogsFault, LogsFaultAt, PolicyFault, PolicyFaultAt};
+use std::alloc::{AllocError, AllocFailed, Global};
 use std::fs::TryLockError;
 use std::io;
 
@@ -26,6 +26,8 @@ pub enum Stop {
     Note(signed_notes::Fault),
     /// A policy file is none.
     Policy(PolicyFaultAt),
+    /// A list of logs is none.
+    Logs(LogsFaultAt),
     /// A tile was not read.
     Tile(TileFault),
     /// Entries that are called so are not the log's.
@@ -68,11 +70,12 @@ pub enum Stop {
     Unsaid,
 }
 
-/// Why the command stops, and the place among the words of the file that it speaks of.
+/// Why the command stops, and of which file it speaks: by its place among the words, or by its name where no word is it.
 #[derive(Drop)]
 pub struct StopAt {
     pub why: Stop,
     pub place: Option<usize>,
+    pub name: Option<String>,
 }
 
 // What a refusal of the system says: a lack of memory has its own name.
@@ -98,7 +101,20 @@ impl Stop {
         StopAt {
             why: self,
             place: Some(place),
+            name: None,
         }
+    }
+}
+
+/// Names the file of which a refusal speaks, where no word is its name.
+pub fn named(alloc: Global, why: Stop, name: &str) -> StopAt {
+    match String::from_str(alloc, name) {
+        Ok(name) => StopAt {
+            why,
+            place: None,
+            name: Some(name),
+        },
+        Err(refused) => StopAt::from(refused),
     }
 }
 
@@ -115,13 +131,18 @@ impl From<Misuse> for StopAt {
         StopAt {
             why: Stop::Misuse(misuse),
             place: None,
+            name: None,
         }
     }
 }
 
 impl From<Stop> for StopAt {
     fn from(why: Stop) -> StopAt {
-        StopAt { why, place: None }
+        StopAt {
+            why,
+            place: None,
+            name: None,
+        }
     }
 }
 
@@ -130,6 +151,7 @@ impl From<io::Error> for StopAt {
         StopAt {
             why: of_system(error),
             place: None,
+            name: None,
         }
     }
 }
@@ -139,6 +161,7 @@ impl From<Fault> for StopAt {
         StopAt {
             why: Stop::Fault(fault),
             place: None,
+            name: None,
         }
     }
 }
@@ -148,6 +171,7 @@ impl From<AllocError> for StopAt {
         StopAt {
             why: Stop::Fault(Fault::Memory),
             place: None,
+            name: None,
         }
     }
 }
@@ -157,6 +181,7 @@ impl<T: Drop> From<AllocFailed<T>> for StopAt {
         StopAt {
             why: Stop::Fault(Fault::Memory),
             place: None,
+            name: None,
         }
     }
 }
@@ -217,6 +242,15 @@ impl From<PolicyFaultAt> for Stop {
         match fault.why {
             PolicyFault::Note(signed_notes::Fault::Memory) => Stop::Fault(Fault::Memory),
             _ => Stop::Policy(fault),
+        }
+    }
+}
+
+impl From<LogsFaultAt> for Stop {
+    fn from(fault: LogsFaultAt) -> Stop {
+        match fault.why {
+            LogsFault::Note(signed_notes::Fault::Memory) => Stop::Fault(Fault::Memory),
+            _ => Stop::Logs(fault),
         }
     }
 }

@@ -34,7 +34,7 @@ const LINES: [&str; 32] = [
     "receipt FOLDER KEY|--policy POLICY [--not-older-than SECONDS] INDEX [ORIGIN]",
     "verify-receipt KEY|--policy POLICY [--not-older-than SECONDS] FILE RECEIPT [ORIGIN]",
     "witness FOLDER KEY|--policy POLICY [--not-older-than SECONDS] STATE --key KEYFILE [--origin ORIGIN] [--wait SECONDS]",
-    "witness-request KEY|--policy POLICY [--not-older-than SECONDS] STATE --key KEYFILE [--origin ORIGIN]",
+    "witness-request KEY|--policy POLICY [--not-older-than SECONDS] STATE --key KEYFILE [--origin ORIGIN] | --logs LOGS --key KEYFILE",
     "help [COMMAND]",
     "-h | --help | --version",
 ];

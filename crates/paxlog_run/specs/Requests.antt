@@ -3,14 +3,14 @@ use Rattle.std.specs.Prelude.{ℕ, ◌+◌, ◌-◌, ◌==◌, ◌||◌, ◌&&�
 use Rattle.std.specs.Str.{bytes_eq}
 use Rattle.paxlog_run.specs.declared.request.Word.{Word}
 use Rattle.paxlog_run.specs.declared.request.Request.{Request}
-use Rattle.paxlog_run.specs.declared.request.Misuse.TheVariants.{Nothing, NoCommand, TooFew, TooMany, NoLines, NoBatches, NotInBatches, NoKeyFile, NotPublished}
+use Rattle.paxlog_run.specs.declared.request.Misuse.TheVariants.{Nothing, NoCommand, TooFew, TooMany, NoLines, NoBatches, NotInBatches, NoKey, NoKeyFile, NotPublished}
 use Rattle.paxlog_run.specs.declared.request.appends.OptionsAt.{OptionsAt}
 use Rattle.paxlog_run.specs.declared.request.Publication.{Publication}
 use Rattle.paxlog_run.specs.declared.request.waits.Waiting.{Waiting}
 use Rattle.paxlog_run.specs.declared.request.Entries.TheVariants.{Lines, Bundles, Files}
 use Rattle.paxlog_run.specs.declared.request.Needed.TheVariants.{State, Entry}
 use Rattle.paxlog_run.specs.declared.request.keeps.FromAt.{FromAt}
-use Rattle.paxlog_run.specs.declared.request.Request.TheVariants.{Append, AppendLines, Root, Prove, Show, Consistency, Check, Find, Recover, Verify, VerifyConsistency, Keygen, Checkpoint, VerifyCheckpoint, Tiles, Cosign, Audit, Follow, Keep, Needs, TileProof, VerifyReceipt, Witness, WitnessRequest, Help, Version}
+use Rattle.paxlog_run.specs.declared.request.Request.TheVariants.{Append, AppendLines, Root, Prove, Show, Consistency, Check, Find, Recover, Verify, VerifyConsistency, Keygen, Checkpoint, VerifyCheckpoint, Tiles, Cosign, Audit, Follow, Keep, Needs, TileProof, VerifyReceipt, Witness, WitnessLogs, WitnessRequest, Help, Version}
 use Rattle.paxlog_run.specs.Places.{Read, typed_at, origin_at, number_word_at, digest_word_at, size_at, counted, keyed_at, site_by, site_at, signers_at, ◌>>=◌}
 
 -- root LOG [SIZE]; the command's name of it stands at place 0
@@ -337,9 +337,17 @@ witness_request words =
       keyed ← keyed_at words (at.next + 1)
       Ok (Witness (site_by at.signers keyed.origin) (typed_at at.next) keyed.key_file)
 
--- witness-request SIGNERS STATE --key KEYFILE [--origin ORIGIN]
+-- witness-request --logs LOGS --key KEYFILE
+abbrev pub witness_logs_request : List (List ℕ) → Read Request
+witness_logs_request words = do
+  count ← counted words 5 5
+  if not (bytes_eq (get_or words 3 []) (codes "--key")) then Err (NoKey 3)
+      else Ok (WitnessLogs (typed_at 2) (typed_at 4))
+
+-- witness-request SIGNERS STATE --key KEYFILE [--origin ORIGIN], or the same of the logs that a file lists
 abbrev pub witness_reply_request : List (List ℕ) → Read Request
 witness_reply_request words =
+    if bytes_eq (get_or words 1 []) (codes "--logs") then witness_logs_request words else
     let at = signers_at words 1 in do
       keyed ← keyed_at words (at.next + 1)
       Ok (WitnessRequest at.signers (typed_at at.next) keyed)

@@ -234,6 +234,11 @@ pub enum Request {
         state: Word,
         keyed: Keyed,
     },
+    /// The same of the logs that a file lists.
+    WitnessLogs {
+        logs: Word,
+        key_file: Word,
+    },
     /// How the command is used, or one of its commands.
     Help {
         command: Option<Word>,

@@ -1,13 +1,13 @@
 //! What is asked for by words about checkpoints and tiles.
 
 ghost use Rattle.std.specs.Prelude.{◌≡◌, map, vec_items};
-ghost use Rattle.paxlog_run.specs.Requests.{asked_of_checkpoints, asked_of_followers, asked_of_tiles, audit_request, checkpoint_request, cosign_request, follow_request, keygen_request, needs_entry_request, needs_request, tile_proof_request, tiles_request, verify_checkpoint_request, verify_receipt_request, witness_reply_request, witness_request};
+ghost use Rattle.paxlog_run.specs.Requests.{asked_of_checkpoints, asked_of_followers, asked_of_tiles, audit_request, checkpoint_request, cosign_request, follow_request, keygen_request, needs_entry_request, needs_request, tile_proof_request, tiles_request, verify_checkpoint_request, verify_receipt_request, witness_logs_request, witness_reply_request, witness_request};
 
 use crate::request::keeps::{keep_files_request, keep_request};
 use crate::request::parts::{
     counted, keyed_at, number_word_at, origin_at, signers_at, site_by, typed_at,
 };
-use crate::request::{Keyed, Misuse, Needed, Request};
+use crate::request::{Keyed, Misuse, Needed, Request, bytes_at};
 
 // The new key that is asked for.
 fn keygen_request(words: &[Vec<u8>], is_witness: bool) -> Result<Request, Misuse>
@@ -157,10 +157,27 @@ fn witness_request(words: &[Vec<u8>]) -> Result<Request, Misuse>
     })
 }
 
+// The reply of a witness of the logs of a list that is asked for.
+fn witness_logs_request(words: &[Vec<u8>]) -> Result<Request, Misuse>
+    ensures { result ≡ witness_logs_request (map vec_items words.now) }
+{
+    counted(words, 5, 5)?;
+    if bytes_at(words, 3) != b"--key".as_slice() {
+        return Err(Misuse::NoKey(3));
+    }
+    Ok(Request::WitnessLogs {
+        logs: typed_at(2),
+        key_file: typed_at(4),
+    })
+}
+
 // The reply of a witness that is asked for.
 fn witness_reply_request(words: &[Vec<u8>]) -> Result<Request, Misuse>
     ensures { result ≡ witness_reply_request (map vec_items words.now) }
 {
+    if bytes_at(words, 1) == b"--logs".as_slice() {
+        return witness_logs_request(words);
+    }
     let at = signers_at(words, 1);
     Ok(Request::WitnessRequest {
         signers: at.signers,
