@@ -209,7 +209,7 @@ pub mod log {
 pub mod map {
     pub use merkle_map::{
         Change, End, Entry, HIDDEN, KeptMap, KeyProof, MapHasher, MapTree, MapViews, Sha256Map,
-        change_from, verify_absent, verify_other, verify_transition, verify_value,
+        change_from, rows_after, verify_absent, verify_other, verify_transition, verify_value,
     };
 }
 

@@ -1,6 +1,8 @@
 -- Answers of outcomes that are equal, or go on.
 use Rattle.std.proofs.Common.{◌≡◌, Ok, Err, OnOk, inl, inr, ap, sym, ◌∙◌, subst}
 use Rattle.ark_base.specs.Outcome.{Outcome, ◌>>=◌, AnswersBy}
+use Rattle.merkle_map.specs.Changes.{outcome_with}
+use Rattle.merkle_map.specs.Tree.{Shape}
 
 pub answers_as : {A B : Type 0} (view : A → B) (a b : Outcome B) (result : Outcome A) → a ≡ b → AnswersBy view b result
     → AnswersBy view a result
@@ -21,3 +23,9 @@ gives value = Ok value
 pub ok_anyway : {A : Type 0} (result : Outcome A) (P : Type 0) → P → OnOk result P
 ok_anyway (Ok value) P known = known
 ok_anyway (Err error) P known = tt
+
+-- an answer that is never a lack of memory
+pub answers_exactly : {A : Type 0} (new : Shape) (o : Outcome Shape) (result : Outcome A) → o ≡ outcome_with new result
+    → AnswersBy (λ _. new) o result
+answers_exactly new o (Ok x) e = e
+answers_exactly new o (Err error) e = inr e

@@ -1,9 +1,10 @@
 -- Changes of a map, and what a checked transition says.
-use Rattle.std.specs.Prelude.{◌≡◌, ◌⊎◌, List, [], ◌∷◌, Bool, false, if◌then◌else◌, Option, Some, None, Ok}
+use Rattle.std.specs.Prelude.{◌≡◌, ◌⊎◌, ℕ, List, [], ◌∷◌, Bool, true, false, if◌then◌else◌, Option, Some, None, Ok}
 use Rattle.ark_base.specs.Outcome.{Outcome, ◌>>=◌}
 use Rattle.merkle_map.specs.Map.{Key, Digest, Entry, MapHashes, root_of_map, IsMap, put, without}
 use Rattle.merkle_map.specs.Tree.{Shape, CollidesBelow, shape_digest}
 use Rattle.merkle_map.specs.Changes.{tree_with_value, tree_without}
+use Rattle.merkle_map.specs.Rows.{rows_of}
 use Rattle.merkle_map.specs.Shown.{has_digest}
 use Rattle.merkle_map.specs.declared.transition.Change.{Change}
 use Rattle.merkle_map.specs.declared.transition.Change.TheVariants.{Put, Remove}
@@ -53,6 +54,25 @@ LeadsTo h old new tree changes = (entries : List Entry) → IsMap entries → ro
 abbrev pub changed_tree : MapHashes → Digest → List ChangeSeen → Shape → Outcome (Option Shape)
 changed_tree h root changes tree = has_digest h root tree >>= λ is_it.
     if is_it then (tree_after_all h.nothing changes tree >>= λ new. Ok (Some new)) else Ok None
+
+-- whether a tree has this root, and the tree after changes where it has
+abbrev pub changed_from : MapHashes → Digest → List ChangeSeen → Shape → Outcome (Bool × Shape)
+changed_from h root changes tree = has_digest h root tree >>= λ is_it.
+    if is_it then (tree_after_all h.nothing changes tree >>= λ new. Ok (true, new)) else Ok (false, tree)
+
+-- the digest and the rows of a tree, if there is one
+abbrev pub rows_if : MapHashes → Option Shape → Outcome (Option (Digest × List ℕ))
+rows_if h None = Ok None
+rows_if h (Some tree) = rows_of h tree >>= λ made. Ok (Some made)
+
+-- the new root and the rows of a tree after changes, if it has this root
+abbrev pub changed_rows : MapHashes → Digest → List ChangeSeen → Shape → Outcome (Option (Digest × List ℕ))
+changed_rows h root changes tree = changed_tree h root changes tree >>= rows_if h
+
+-- what a call found, its rows by their bytes
+abbrev pub rows_found : {A : Type 0} → (A → List ℕ) → Option (Digest × A) → Option (Digest × List ℕ)
+rows_found items None = None
+rows_found items (Some made) = Some (made.0, items made.1)
 
 -- Each map with the old root has the new tree's after the changes, or collides with the tree below bits that are named.
 abbrev pub LeadsOn : MapHashes → Digest → Shape → List ChangeSeen → Shape → Type 0

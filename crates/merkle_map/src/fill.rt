@@ -3,6 +3,7 @@
 ghost use Rattle.std.specs.Prelude.{◌≡◌};
 ghost use Rattle.ark_base.specs.Outcome.{AnswersBy};
 ghost use Rattle.merkle_map.specs.Kept.{IsKept};
+ghost use Rattle.merkle_map.specs.Map.{MapHashes};
 ghost use Rattle.merkle_map.specs.Parts.{shape};
 ghost use Rattle.merkle_map.specs.Tree.{shape_digest};
 
@@ -51,5 +52,27 @@ pub fn fill<D: DigestItem, H: MapViews<Input = [u8; 32], Output = D>>(
             let digest = &mut **digest;
             copy_digest(alloc, digest)
         }
+    }
+}
+
+// Forgets the digests that a tree keeps.
+pub fn forget_in<D: DigestItem>(part: &mut Part<D>)
+    ensures same { shape D.numbers part.new ≡ shape D.numbers part.old }
+    ensures none { (h : MapHashes) → IsKept D.numbers h part.new }
+{
+    match part {
+        Part::Empty => {}
+        Part::One { .. } => {}
+        Part::Fork { sides } => {
+            let Sides {
+                left,
+                right,
+                digest,
+            } = &mut **sides;
+            *digest = None;
+            forget_in(left);
+            forget_in(right);
+        }
+        Part::Hidden { .. } => {}
     }
 }

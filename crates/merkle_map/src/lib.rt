@@ -29,6 +29,6 @@ pub use kept::KeptMap;
 pub use part::{Entry, HIDDEN};
 pub use proof::{End, KeyProof};
 pub use sha256::Sha256Map;
-pub use transition::{Change, change_from, verify_transition};
+pub use transition::{Change, change_from, rows_after, verify_transition};
 pub use tree::MapTree;
 pub use verify::{verify_absent, verify_other, verify_value};

@@ -1,8 +1,9 @@
 //! The nodes of a tree with their digests, for a store outside.
 
 ghost use Rattle.std.specs.Prelude.{◌≡◌, ◌∷◌, ◌++◌, IfErr, OnOk};
-ghost use Rattle.ark_base.specs.Outcome.{AnswersBy, IsMemory};
+ghost use Rattle.ark_base.specs.Outcome.{Answers, AnswersBy, IsMemory};
 ghost use Rattle.merkle_map.specs.Bytes.{itself};
+ghost use Rattle.merkle_map.specs.Kept.{IsFor, IsKept};
 ghost use Rattle.merkle_map.specs.Parts.{shape};
 ghost use Rattle.merkle_map.specs.Rows.{rows_of, rows_behind};
 
@@ -30,7 +31,24 @@ fn push_row(
     push_string(second, rows)
 }
 
-// Hashes a tree, and writes the rows of what it does not hide behind others. Errors, which may leave some: those of the hashes,
+// Returns the digest of two, or the one that is kept. Errors: those of the hash of pairs; `OutOfMemory`.
+fn pair_unless_kept<H: MapViews<Input = [u8; 32], Output = [u8; 32]>>(
+    alloc: Global,
+    hasher: &MapHasher<H>,
+    kept: &Option<[u8; 32]>,
+    left: &[u8; 32],
+    right: &[u8; 32],
+) -> Result<[u8; 32], Error>
+    requires { IsFor itself ((H.hashes hasher.now).pair left.now right.now) kept.now }
+    ensures { Answers ((H.hashes hasher.now).pair left.now right.now) result }
+{
+    match kept {
+        Some(digest) => Ok(*digest),
+        None => hasher.pair(alloc, left, right),
+    }
+}
+
+// Hashes a tree, as far as no digest is kept, and writes the rows of what it does not hide behind others. Errors, which may leave some: those of the hashes,
 // the lowest first, the left one among equals; `OutOfMemory`.
 pub fn push_tree_rows<H: MapViews<Input = [u8; 32], Output = [u8; 32]>>(
     alloc: Global,
@@ -38,6 +56,7 @@ pub fn push_tree_rows<H: MapViews<Input = [u8; 32], Output = [u8; 32]>>(
     part: &Part<[u8; 32]>,
     rows: &mut Vec<u8>,
 ) -> Result<[u8; 32], Error>
+    requires { IsKept itself (H.hashes hasher.now) part.now }
     ensures { AnswersBy (λ digest. (digest, rows.new.items)) (rows_behind rows.old.items
         (rows_of (H.hashes hasher.now) (shape itself part.now))) result }
 {
@@ -51,7 +70,7 @@ pub fn push_tree_rows<H: MapViews<Input = [u8; 32], Output = [u8; 32]>>(
         Part::Fork { sides } => {
             let l = push_tree_rows(alloc, hasher, &sides.left, rows)?;
             let r = push_tree_rows(alloc, hasher, &sides.right, rows)?;
-            let digest = hasher.pair(alloc, &l, &r)?;
+            let digest = pair_unless_kept(alloc, hasher, &sides.digest, &l, &r)?;
             push_row(&digest, 1, &l, &r, rows)?;
             Ok(digest)
         }

@@ -3,16 +3,18 @@
 ghost use Rattle.std.specs.Prelude.{◌≡◌, ◌++◌, [], false, map, IfErr, IfOk, OnErr, OnOk};
 ghost use Rattle.ark_base.specs.Outcome.{AnswersBy, IsMemory};
 ghost use Rattle.merkle_map.specs.Bytes.{itself, spelled, IsOf32};
-ghost use Rattle.merkle_map.specs.Changes.{known_at, tree_without, with_value};
+ghost use Rattle.merkle_map.specs.Changes.{entry_of, known_at, tree_without, with_value};
 ghost use Rattle.merkle_map.specs.Kept.{IsTopKept};
 ghost use Rattle.merkle_map.specs.KeyProof.{behind_all, proof_at, seen_with};
-ghost use Rattle.merkle_map.specs.Map.{MapHashes};
-ghost use Rattle.merkle_map.specs.Parts.{entry_seen, found_seen, shape, top_shape};
+ghost use Rattle.merkle_map.specs.Map.{MapHashes, put, without};
+ghost use Rattle.merkle_map.specs.Parts.{found_seen, shape, top_shape};
 ghost use Rattle.merkle_map.specs.Pruned.{pruned, FitsKeys};
 ghost use Rattle.merkle_map.specs.Rows.{rows_behind, rows_of};
-ghost use Rattle.merkle_map.specs.Tree.{shape_digest, IsKey, StandsAt};
+ghost use Rattle.merkle_map.specs.Shown.{Follows, FollowsBy};
+ghost use Rattle.merkle_map.specs.Tree.{shape_digest, StandsAt};
 
 use crate::bytes::{push_hidden, write_part};
+use crate::fill::{fill, forget_in};
 use crate::hasher::{MapHasher, MapViews};
 use crate::key::copy_digest;
 use crate::part::{Entry, Part, digest_of, find_entry, hidden};
@@ -21,6 +23,7 @@ use crate::prune::prune_in;
 use crate::put::put_in;
 use crate::remove::remove_from;
 use crate::rows::push_tree_rows;
+use crate::together::{FEW, fill_together};
 use ark_base::error::Error;
 use ark_base::serialize::DigestItem;
 use std::alloc::Global;
@@ -50,17 +53,24 @@ pub fn find_top<'a, D: DigestItem>(
 }
 
 // As `put_in`.
-pub fn put_top<D: DigestItem>(alloc: Global, top: &mut Top<D>, own: Entry) -> Result<(), Error>
-    requires own_key { IsKey own.key }
-    requires stands { StandsAt [] (top_shape D.numbers top.old) }
+pub fn put_top<D: DigestItem>(
+    alloc: Global,
+    top: &mut Top<D>,
+    key: &[u8; 32],
+    value: [u8; 32],
+) -> Result<(), Error>
+    requires { StandsAt [] (top_shape D.numbers top.old) }
     ensures changed { AnswersBy (λ _. top_shape D.numbers top.new)
-        (with_value 0 (entry_seen own) (top_shape D.numbers top.old)) result }
+        (with_value 0 (entry_of key.now value) (top_shape D.numbers top.old)) result }
     ensures kept { OnErr result (top_shape D.numbers top.new ≡ top_shape D.numbers top.old) }
+    ensures stands { StandsAt [] (top_shape D.numbers top.new) }
+    ensures maps { OnOk result (Follows (put key.now value) (top_shape D.numbers top.old)
+        (top_shape D.numbers top.new)) }
     ensures digests { (h : MapHashes) → IsTopKept D.numbers h top.old
         → IsTopKept D.numbers h top.new }
 {
     match top {
-        Top::Shown { part } => put_in(alloc, part, 0, own),
+        Top::Shown { part } => put_in(alloc, part, 0, Entry { key: *key, value }),
         Top::Digest { .. } => Err(hidden()),
     }
 }
@@ -76,6 +86,9 @@ pub fn remove_top<D: DigestItem, H: MapViews<Input = [u8; 32], Output = D>>(
     ensures changed { AnswersBy (λ _. top_shape D.numbers top.new)
         (tree_without (H.hashes hasher.now).nothing key.now (top_shape D.numbers top.old)) result }
     ensures kept { OnErr result (top_shape D.numbers top.new ≡ top_shape D.numbers top.old) }
+    ensures stands { StandsAt [] (top_shape D.numbers top.new) }
+    ensures maps { OnOk result (FollowsBy (H.hashes hasher.now) (without key.now)
+        (top_shape D.numbers top.old) (top_shape D.numbers top.new)) }
     ensures digests { (h : MapHashes) → IsTopKept D.numbers h top.old
         → IsTopKept D.numbers h top.new }
 {
@@ -101,6 +114,42 @@ pub fn digest_of_top<D: DigestItem, H: MapViews<Input = [u8; 32], Output = D>>(
     match top {
         Top::Shown { part } => digest_of(alloc, hasher, part),
         Top::Digest { digest } => copy_digest(alloc, digest),
+    }
+}
+
+// Hashes a tree, as far as no digest is kept, and keeps the digest of each fork; one fork behind the other, where the changes are
+// few. Errors: as of `digest_of`.
+pub fn fill_top<D: DigestItem, H: MapViews<Input = [u8; 32], Output = D>>(
+    alloc: Global,
+    hasher: &MapHasher<H>,
+    top: &mut Top<D>,
+    changes: usize,
+) -> Result<D, Error>
+    requires { IsTopKept D.numbers (H.hashes hasher.now) top.old }
+    ensures digest { AnswersBy D.numbers (shape_digest (H.hashes hasher.now)
+        (top_shape D.numbers top.old)) result }
+    ensures same { top_shape D.numbers top.new ≡ top_shape D.numbers top.old }
+    ensures kept { IsTopKept D.numbers (H.hashes hasher.now) top.new }
+{
+    match top {
+        Top::Shown { part } => {
+            if changes < FEW {
+                return fill(alloc, hasher, part);
+            }
+            fill_together(alloc, hasher, part)
+        }
+        Top::Digest { digest } => copy_digest(alloc, digest),
+    }
+}
+
+// Forgets the digests that a tree keeps.
+pub fn forget_top<D: DigestItem>(top: &mut Top<D>)
+    ensures same { top_shape D.numbers top.new ≡ top_shape D.numbers top.old }
+    ensures none { (h : MapHashes) → IsTopKept D.numbers h top.new }
+{
+    match top {
+        Top::Shown { part } => forget_in(part),
+        Top::Digest { .. } => {}
     }
 }
 
@@ -170,6 +219,7 @@ pub fn push_rows_of_top<H: MapViews<Input = [u8; 32], Output = [u8; 32]>>(
     top: &Top<[u8; 32]>,
     rows: &mut Vec<u8>,
 ) -> Result<[u8; 32], Error>
+    requires { IsTopKept itself (H.hashes hasher.now) top.now }
     ensures { AnswersBy (λ digest. (digest, rows.new.items)) (rows_behind rows.old.items
         (rows_of (H.hashes hasher.now) (top_shape itself top.now))) result }
 {
@@ -177,4 +227,24 @@ pub fn push_rows_of_top<H: MapViews<Input = [u8; 32], Output = [u8; 32]>>(
         Top::Shown { part } => push_tree_rows(alloc, hasher, part, rows),
         Top::Digest { digest } => Ok(*digest),
     }
+}
+
+// Hashes a tree, as far as no digest is kept, and returns its digest and its rows; one fork behind the other, where the changes are
+// few. Errors: those of the hashes, the lowest first, the left one among equals; `OutOfMemory`.
+pub fn fill_rows<H: MapViews<Input = [u8; 32], Output = [u8; 32]>>(
+    alloc: Global,
+    hasher: &MapHasher<H>,
+    top: &mut Top<[u8; 32]>,
+    changes: usize,
+) -> Result<([u8; 32], Vec<u8>), Error>
+    requires { IsTopKept itself (H.hashes hasher.now) top.old }
+    ensures rows { AnswersBy (λ made. (made.0, made.1.items)) (rows_of (H.hashes hasher.now)
+        (top_shape itself top.old)) result }
+    ensures digest { AnswersBy (λ made. made.0) (shape_digest (H.hashes hasher.now)
+        (top_shape itself top.old)) result }
+{
+    fill_top(alloc, hasher, top, changes)?;
+    let mut rows = Vec::new(alloc);
+    let digest = push_rows_of_top(alloc, hasher, top, &mut rows)?;
+    Ok((digest, rows))
 }

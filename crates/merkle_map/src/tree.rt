@@ -4,9 +4,10 @@ ghost use Rattle.std.specs.Prelude.{◌≡◌, [], false, true, List, IfOk, OnOk
 ghost use Rattle.ark_base.specs.Outcome.{Answers, AnswersBy};
 ghost use Rattle.merkle_map.specs.Bytes.{spelled, tree_of_bytes, IsOf32, ReadsBack};
 ghost use Rattle.merkle_map.specs.Changes.{known_at, tree_with_value, tree_without};
+ghost use Rattle.merkle_map.specs.Kept.{IsTopKept};
 ghost use Rattle.merkle_map.specs.KeyProof.{proof_at, proof_seen, IsKeyProofAccepted};
-ghost use Rattle.merkle_map.specs.Map.{Entry as EntryOf, put, root_of_map, without};
-ghost use Rattle.merkle_map.specs.Parts.{found_seen, value_seen};
+ghost use Rattle.merkle_map.specs.Map.{Entry as EntryOf, MapHashes, put, root_of_map, without};
+ghost use Rattle.merkle_map.specs.Parts.{found_seen, top_shape, value_seen};
 ghost use Rattle.merkle_map.specs.Pruned.{pruned, CanChange, CanLose, KnowsSame, ShowsSame};
 ghost use Rattle.merkle_map.specs.Rows.{rows_of};
 ghost use Rattle.merkle_map.specs.Shown.{BindsTree, Follows, FollowsBy, Has, has_digest};
@@ -16,7 +17,7 @@ ghost use Rattle.merkle_map.specs.Whole.{IsRootOf, Stores};
 use crate::bytes::part_of_bytes;
 use crate::hasher::{MapHasher, MapViews};
 use crate::key::are_same_digests;
-use crate::part::{Entry, Part};
+use crate::part::Part;
 use crate::proof::KeyProof;
 use crate::top::{
     Top, climb_top, digest_of_top, find_top, prune_top, push_rows_of_top, put_top, remove_top,
@@ -74,6 +75,24 @@ impl<D: DigestItem> MapTree<D> {
         }
     }
 
+    // Returns the tree in its parts, which keep no digest.
+    pub(crate) fn into_top(self) -> Top<D>
+        ensures shape { top_shape D.numbers result ≡ self }
+        ensures stands { StandsAt [] (top_shape D.numbers result) }
+        ensures none { (h : MapHashes) → IsTopKept D.numbers h result }
+    {
+        self.top
+    }
+
+    // Returns the tree of parts that keep no digest.
+    pub(crate) fn of_top(top: Top<D>) -> MapTree<D>
+        requires stands { StandsAt [] (top_shape D.numbers top) }
+        requires none { (h : MapHashes) → IsTopKept D.numbers h top }
+        ensures { result ≡ top_shape D.numbers top }
+    {
+        MapTree { top }
+    }
+
     /// Returns what the map has at a key. The error is `HIDDEN`: the tree hides it.
     pub fn get(&self, key: &[u8; 32]) -> Result<Option<&[u8; 32]>, Error>
         ensures found { known_at 0 key.now self.now
@@ -101,7 +120,7 @@ impl<D: DigestItem> MapTree<D> {
         // A store becomes the store of the map with the value.
         ensures store { Stores (put key.now value) self.old self.new result }
     {
-        put_top(alloc, &mut self.top, Entry { key: *key, value })
+        put_top(alloc, &mut self.top, key, value)
     }
 
     /// Removes a key. A tree that has nothing at the key stays as it is.

@@ -8,9 +8,8 @@ use Rattle.merkle_map.specs.Bytes.{tree_of_bytes}
 use Rattle.merkle_map.specs.Changes.{known_at}
 use Rattle.merkle_map.specs.KeyProof.{ProofSeen, proof_at, proof_verdict}
 use Rattle.merkle_map.specs.ProofBytes.{proof_bytes, proof_of_bytes}
-use Rattle.merkle_map.specs.Rows.{rows_of}
 use Rattle.merkle_map.specs.Sha256.{sha256_map}
-use Rattle.merkle_map.specs.Transition.{ChangeSeen, Puts, Removes, changed_tree}
+use Rattle.merkle_map.specs.Transition.{ChangeSeen, Puts, Removes, changed_rows}
 use Rattle.merkle_map.specs.Tree.{Shape, shape_digest, IsWhole, Shows}
 use Rattle.merkle_map.specs.Whole.{entries_of}
 use Rattle.paxidore_calls.specs.Answer.{only_if, refusal_code, refused_of}
@@ -75,15 +74,10 @@ changes_of [] values = []
 changes_of (key ∷ keys) [] = Removes key ∷ changes_of keys []
 changes_of (key ∷ keys) (value ∷ values) = Puts key value ∷ changes_of keys values
 
--- the digest and the rows of a tree, if there is one
-abbrev pub made_of : Option Shape → Outcome (Option (Digest × List ℕ))
-made_of None = Ok None
-made_of (Some tree) = rows_of sha256_map tree >>= λ made. Ok (Some made)
-
 -- the new root and the rows of the new tree, if the tree that bytes are has the old root
 abbrev pub tree_changed : Digest → List ℕ → List Key → List Digest → Outcome (Option (Digest × List ℕ))
 tree_changed root tree keys values =
-    tree_of_bytes tree >>= changed_tree sha256_map root (changes_of keys values) >>= made_of
+    tree_of_bytes tree >>= changed_rows sha256_map root (changes_of keys values)
 
 -- the same where there are no more values than keys
 abbrev pub map_changed : Digest → List ℕ → List Key → List Digest → Result (Option (Digest × List ℕ)) Refused
@@ -95,11 +89,6 @@ abbrev pub changed_code : Result (Option (Digest × List ℕ)) Refused → ℕ �
 changed_code (Ok None) room = pos 1
 changed_code (Ok (Some made)) room = if nat_lt room (length made.1) then refusal_code Room else pos 0
 changed_code (Err refused) room = refusal_code refused
-
--- what a call found, its rows by their bytes
-abbrev pub rows_found : {A : Type 0} → (A → List ℕ) → Option (Digest × A) → Option (Digest × List ℕ)
-rows_found items None = None
-rows_found items (Some made) = Some (made.0, items made.1)
 
 -- What a change made has this.
 abbrev pub IfMade : {E : Type 0} → Result (Option (Digest × List ℕ)) E → (Digest × List ℕ → Type 0) → Type 0

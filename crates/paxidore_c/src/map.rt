@@ -9,15 +9,15 @@ ghost use Rattle.merkle_map.specs.KeyProof.{BindsBy};
 ghost use Rattle.merkle_map.specs.Map.{Entry, root_of_map};
 ghost use Rattle.merkle_map.specs.Parts.{value_seen};
 ghost use Rattle.merkle_map.specs.Sha256.{sha256_map};
-ghost use Rattle.merkle_map.specs.Transition.{change_seen, LeadsTo};
+ghost use Rattle.merkle_map.specs.Transition.{change_seen, rows_found, LeadsTo};
 ghost use Rattle.merkle_map.specs.Tree.{shape_digest, Shows};
 ghost use Rattle.merkle_map.specs.Whole.{IsRootOf};
 ghost use Rattle.paxidore_calls.specs.Answer.{done_code, refusal_code, refusing, verdict_code, GivesCode, CallGivesBy, Hands};
-ghost use Rattle.paxidore_c.specs.Maps.{changed_code, changes_of as changes_by, key_proof_in, key_verdict, map_changed, map_proof, map_refused, map_root as root_in, refusing_map, rows_found, tree_changed, IfMade, IsProvedBy, IsRootOfAll, IsRootOfStore};
+ghost use Rattle.paxidore_c.specs.Maps.{changed_code, changes_of as changes_by, key_proof_in, key_verdict, map_changed, map_proof, map_refused, map_root as root_in, refusing_map, tree_changed, IfMade, IsProvedBy, IsRootOfAll, IsRootOfStore};
 ghost use Rattle.paxidore_calls.specs.declared.refused.Refused.TheVariants.{Room};
 
 use ark_base::error::Error;
-use merkle_map::{Change, KeyProof, MapTree, Sha256Map, change_from};
+use merkle_map::{Change, KeyProof, MapTree, Sha256Map, rows_after};
 use paxidore_calls::buffer::hand_over;
 use paxidore_calls::refused::{Refused, verdict_code};
 use std::alloc::Global;
@@ -227,11 +227,7 @@ fn changed(
     let hasher = Sha256Map::new();
     let changes = changes_of(alloc, keys, values)?;
     let tree = MapTree::from_bytes(alloc, tree)?;
-    let Some(new) = change_from(alloc, &hasher, root, tree, &changes)? else {
-        return Ok(None);
-    };
-    let made = new.rows(alloc, &hasher)?;
-    Ok(Some(made))
+    rows_after(alloc, &hasher, root, tree, &changes)
 }
 
 /// Makes changes of the map whose tree, as far as they need it, bytes are: the first keys get the values, in turn, and the keys

@@ -6,6 +6,9 @@ use Rattle.merkle_map.specs.Tree.{shape_digest}
 use Rattle.merkle_map.proofs.Hashed.{digest-behind}
 use Rattle.merkle_map.proofs.tree.MapTree+array+32+u8.rows.Goals as goal
 
+pub push_rows_of_top-requires : goal.push_rows_of_top-requires
+push_rows_of_top-requires g c = c.self.invariant.1 (g.H.MapViews.hashes c.args.hasher.now)
+
 pub returns-in_err-digest-clause-digest : goal.returns-in_err-digest-clause-digest
 returns-in_err-digest-clause-digest g c =
     let h = g.H.MapViews.hashes c.args.hasher.now in

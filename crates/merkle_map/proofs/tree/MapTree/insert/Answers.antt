@@ -5,37 +5,26 @@ use Rattle.merkle_map.proofs.Wholes.{plain, stores, put-can, under}
 use Rattle.merkle_map.specs.Map.{put}
 use Rattle.merkle_map.specs.Parts.{top_shape}
 use Rattle.merkle_map.specs.Shown.{Follows}
-use Rattle.merkle_map.proofs.Calls.{put-stands, put-follows}
 use Rattle.merkle_map.proofs.tree.MapTree.insert.Goals as goal
 
 pub invariant_of-self : goal.invariant_of-self
 invariant_of-self g c =
-    let numbers = g.D.Numbered.numbers in (
-      put-stands (entry_of c.args.key.now c.args.value) (c.told-key, c.fits-key)
-          (top_shape numbers c.self.inside.top)
-          (top_shape numbers c.put_top.new.top) c.self.invariant.0 c.put_top.result c.put_top.ensures.changed
-          c.put_top.ensures.kept,
-      λ h. c.put_top.ensures.digests h (c.self.invariant.1 h),
-    )
+    (c.put_top.ensures.stands, λ h. c.put_top.ensures.digests h (c.self.invariant.1 h))
 
 pub returns-clause-maps : goal.returns-clause-maps
 returns-clause-maps g c =
-    let numbers = g.D.Numbered.numbers in
-    let new = top_shape numbers c.put_top.new.top in
+    let new = top_shape g.D.Numbered.numbers c.put_top.new.top in
     subst (λ old. OnOk c.put_top.result (Follows (put c.args.key.now c.args.value) old new)) c.self.view_is
-    (put-follows (entry_of c.args.key.now c.args.value) (c.told-key, c.fits-key)
-    (top_shape numbers c.self.inside.top) new
-    c.self.invariant.0 c.put_top.result c.put_top.ensures.changed)
+    c.put_top.ensures.maps
 
 pub returns-clause-store : goal.returns-clause-store
 returns-clause-store g c =
     let numbers = g.D.Numbered.numbers in
     let own = entry_of c.args.key.now c.args.value in
+    let change = put c.args.key.now c.args.value in
     let old = top_shape numbers c.self.inside.top in
     let new = top_shape numbers c.put_top.new.top in
-    subst (λ s. Stores (put c.args.key.now c.args.value) s new c.put_top.result) c.self.view_is
-    (stores plain (put c.args.key.now c.args.value) old new c.self.invariant.0 (invariant_of-self g c).0
-    (with_value 0 own old)
+    subst (λ s. Stores change s new c.put_top.result) c.self.view_is
+    (stores plain change old new c.self.invariant.0 c.put_top.ensures.stands (with_value 0 own old)
     c.put_top.result (put-can own old) c.put_top.ensures.changed
-    (under plain (put c.args.key.now c.args.value) old new c.put_top.result
-    (put-follows own (c.told-key, c.fits-key) old new c.self.invariant.0 c.put_top.result c.put_top.ensures.changed)))
+    (under plain change old new c.put_top.result c.put_top.ensures.maps))
