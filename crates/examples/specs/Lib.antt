@@ -1,4 +1,5 @@
 pub mod Change
+pub mod Checkpoints
 pub mod Numbers
 pub mod Shifts
 pub mod Transcript
