@@ -52,7 +52,41 @@ const NOTHING: Digest = [
     0x27, 0xae, 0x41, 0xe4, 0x64, 0x9b, 0x93, 0x4c, 0xa4, 0x95, 0x99, 0x1b, 0x78, 0x52, 0xb8, 0x55,
 ];
 
-/// A map with one root, with keys and values of 32 bytes, and proofs of what it has and has not. Its nodes are in memory.
+// A part of a map's tree.
+#[cfg(feature = "std")]
+#[derive(Clone)]
+enum Part {
+    Nothing,
+    // a key and its value
+    Entry(Box<[Digest; 2]>),
+    Fork(Box<Fork>),
+}
+
+#[cfg(feature = "std")]
+#[derive(Clone)]
+struct Fork {
+    digest: Digest,
+    sides: [Part; 2],
+}
+
+#[cfg(feature = "std")]
+impl Part {
+    // The digest of a fork is kept, that of an entry is hashed.
+    fn digest(&self) -> Digest {
+        match self {
+            Part::Nothing => NOTHING,
+            Part::Entry(entry) => {
+                let mut node = [0; NODE];
+                node[1..33].copy_from_slice(&entry[0]);
+                node[33..].copy_from_slice(&entry[1]);
+                crate::sha256(&node)
+            }
+            Part::Fork(fork) => fork.digest,
+        }
+    }
+}
+
+/// A map with one root, with keys and values of 32 bytes, and proofs of what it has and has not. It takes some 200 bytes an entry.
 ///
 /// Hash other values first. Keys should be hashes: whoever chooses keys can make a neighbour's proof longer. The root is the same for
 /// each map with these entries, whatever the order of changes.
@@ -70,8 +104,7 @@ const NOTHING: Digest = [
 #[derive(Clone)]
 pub struct Map {
     root: Digest,
-    // each node by its digest: 0, key and value of an entry, or 1 and the digests of both sides
-    nodes: HashMap<Digest, [u8; NODE]>,
+    top: Part,
     len: usize,
 }
 
@@ -105,21 +138,21 @@ fn has_bit(key: &Digest, level: usize) -> bool {
     key[level / 8] >> (7 - level % 8) & 1 == 1
 }
 
-// Of nodes, each behind the one above it, those below which each key is removed.
+// Of parts, each behind the one above it, those below which each key is removed.
 #[cfg(feature = "std")]
-fn cleared(nodes: &[(Digest, [u8; NODE])], removed: &[Digest]) -> HashSet<Digest> {
+fn cleared(shown: &[&Part], removed: &[Digest]) -> HashSet<*const Part> {
     let removed: HashSet<&Digest> = removed.iter().collect();
-    let mut gone = HashSet::new();
-    for (digest, node) in nodes.iter().rev() {
-        let (first, second) = (digest_in(node, 1), digest_in(node, 33));
-        let is_gone = match node[0] {
-            0 => removed.contains(&first),
-            _ => [first, second]
-                .iter()
-                .all(|side| *side == NOTHING || gone.contains(side)),
+    let mut gone: HashSet<*const Part> = HashSet::new();
+    for part in shown.iter().rev() {
+        let is_gone = match part {
+            Part::Nothing => true,
+            Part::Entry(entry) => removed.contains(&entry[0]),
+            Part::Fork(fork) => fork.sides.iter().all(|side| {
+                matches!(side, Part::Nothing) || gone.contains(&std::ptr::from_ref(side))
+            }),
         };
         if is_gone {
-            gone.insert(*digest);
+            gone.insert(std::ptr::from_ref(*part));
         }
     }
     gone
@@ -136,11 +169,62 @@ fn push_hidden(tree: &mut Vec<u8>, digest: &Digest) {
     }
 }
 
-// A tree's bytes, and the nodes that it shows.
+// How a tree's bytes show a part: whole, as its top with both sides hidden, or by its digest.
+#[cfg(feature = "std")]
+#[derive(Clone, Copy, PartialEq)]
+enum Seen {
+    Whole,
+    Top,
+    Digest,
+}
+
+// A tree's bytes, and how they show its parts, each before those below it and the left ones first.
 #[cfg(feature = "std")]
 struct Shown {
     tree: Vec<u8>,
-    nodes: Vec<(Digest, [u8; NODE])>,
+    seen: Vec<Seen>,
+    entries: usize,
+}
+
+// Takes the parts out of a tree that its bytes hide, by their digests.
+#[cfg(feature = "std")]
+fn take_hidden(top: Part, seen: &[Seen]) -> HashMap<Digest, Part> {
+    let (mut hidden, mut parts) = (HashMap::new(), vec![top]);
+    for as_is in seen {
+        match (as_is, parts.pop()) {
+            (Seen::Digest, Some(part)) => {
+                hidden.insert(part.digest(), part);
+            }
+            (Seen::Whole, Some(Part::Fork(fork))) => {
+                let [left, right] = fork.sides;
+                parts.extend([right, left]);
+            }
+            (Seen::Top, Some(Part::Fork(fork))) => {
+                hidden.extend(fork.sides.map(|side| (side.digest(), side)));
+            }
+            _ => (),
+        }
+    }
+    hidden
+}
+
+// The digests of the parts that a tree's bytes hide.
+#[cfg(feature = "std")]
+fn hidden_digests(top: &Part, seen: &[Seen]) -> HashSet<Digest> {
+    let (mut hidden, mut parts) = (HashSet::from([NOTHING]), vec![top]);
+    for as_is in seen {
+        match (as_is, parts.pop()) {
+            (Seen::Digest, Some(part)) => {
+                hidden.insert(part.digest());
+            }
+            (Seen::Whole, Some(Part::Fork(fork))) => parts.extend([&fork.sides[1], &fork.sides[0]]),
+            (Seen::Top, Some(Part::Fork(fork))) => {
+                hidden.extend(fork.sides.iter().map(Part::digest));
+            }
+            _ => (),
+        }
+    }
+    hidden
 }
 
 // Changes as the library takes them: the first keys get the values, and those behind them are removed.
@@ -207,7 +291,7 @@ impl Map {
     pub fn new() -> Map {
         Map {
             root: NOTHING,
-            nodes: HashMap::new(),
+            top: Part::Nothing,
             len: 0,
         }
     }
@@ -229,27 +313,25 @@ impl Map {
 
     /// What it has at a key.
     pub fn get(&self, key: &Digest) -> Option<Digest> {
-        let mut at = self.root;
-        for level in 0..=256 {
-            let node = self.nodes.get(&at)?;
-            if node[0] == 0 {
-                return (node[1..33] == *key).then(|| digest_in(node, 33));
-            }
-            at = digest_in(node, if has_bit(key, level) { 33 } else { 1 });
+        let (mut part, mut level) = (&self.top, 0);
+        while let Part::Fork(fork) = part {
+            part = &fork.sides[usize::from(has_bit(key, level))];
+            level += 1;
         }
-        None
+        match part {
+            Part::Entry(entry) => (entry[0] == *key).then_some(entry[1]),
+            _ => None,
+        }
     }
 
     /// The entries by rising keys.
     pub fn entries(&self) -> Vec<(Digest, Digest)> {
-        let (mut entries, mut parts) = (Vec::with_capacity(self.len), vec![self.root]);
-        while let Some(node) = parts.pop().map(|digest| self.nodes.get(&digest)) {
-            match node {
-                Some(node) if node[0] == 0 => {
-                    entries.push((digest_in(node, 1), digest_in(node, 33)))
-                }
-                Some(node) => parts.extend([digest_in(node, 33), digest_in(node, 1)]),
-                None => (),
+        let (mut entries, mut parts) = (Vec::with_capacity(self.len), vec![&self.top]);
+        while let Some(part) = parts.pop() {
+            match part {
+                Part::Nothing => (),
+                Part::Entry(entry) => entries.push((entry[0], entry[1])),
+                Part::Fork(fork) => parts.extend([&fork.sides[1], &fork.sides[0]]),
             }
         }
         entries
@@ -258,48 +340,57 @@ impl Map {
     // The tree that shows the ways of keys, and the tops of what stands alone once the removed ones, which stand behind the others, are
     // gone.
     fn shown(&self, keys: &[Digest], removed: usize) -> Shown {
+        // the parts of the tree in their order, with what stands beside those that no key's way meets
+        let mut made: Vec<(&Part, Option<&Part>)> = Vec::new();
+        let all: Vec<usize> = (0..keys.len()).collect();
+        let mut parts: Vec<(&Part, usize, Vec<usize>, Option<&Part>)> =
+            vec![(&self.top, 0, all, None)];
+        while let Some((part, level, own, other)) = parts.pop() {
+            made.push((part, other));
+            if let (Part::Fork(fork), None) = (part, other) {
+                let [left, right] = &fork.sides;
+                let (ones, zeros): (Vec<usize>, Vec<usize>) =
+                    own.into_iter().partition(|i| has_bit(&keys[*i], level));
+                let (no_left, no_right) = (zeros.is_empty(), ones.is_empty());
+                parts.push((right, level + 1, ones, no_right.then_some(left)));
+                parts.push((left, level + 1, zeros, no_left.then_some(right)));
+            }
+        }
+        let met: Vec<&Part> = made
+            .iter()
+            .filter_map(|(part, other)| other.is_none().then_some(*part))
+            .collect();
+        let gone = cleared(&met, &keys[removed..]);
         let mut shown = Shown {
             tree: Vec::new(),
-            nodes: Vec::new(),
+            seen: Vec::with_capacity(made.len()),
+            entries: 0,
         };
-        // the parts of the tree in their order, with what of those that no key's way meets stands beside them
-        let mut made: Vec<(Digest, Option<[u8; NODE]>, Option<Digest>)> = Vec::new();
-        let all: Vec<usize> = (0..keys.len()).collect();
-        let mut parts = vec![(self.root, 0, all, None)];
-        while let Some((digest, level, own, other)) = parts.pop() {
-            let node = match self.nodes.get(&digest) {
-                Some(node) if other.is_none() => node,
-                _ => {
-                    made.push((digest, None, other));
-                    continue;
-                }
+        for (part, other) in made {
+            let is_alone = other.is_some_and(|other| gone.contains(&std::ptr::from_ref(other)));
+            let seen = match (part, other) {
+                (_, None) => Seen::Whole,
+                (Part::Nothing, _) => Seen::Digest,
+                _ if is_alone => Seen::Top,
+                _ => Seen::Digest,
             };
-            shown.nodes.push((digest, *node));
-            made.push((digest, Some(*node), None));
-            if node[0] == 0 {
-                continue;
-            }
-            let sides = (digest_in(node, 1), digest_in(node, 33));
-            let (right, left): (Vec<usize>, Vec<usize>) =
-                own.into_iter().partition(|i| has_bit(&keys[*i], level));
-            let (no_left, no_right) = (left.is_empty(), right.is_empty());
-            parts.push((sides.1, level + 1, right, no_right.then_some(sides.0)));
-            parts.push((sides.0, level + 1, left, no_left.then_some(sides.1)));
-        }
-        let gone = cleared(&shown.nodes, &keys[removed..]);
-        for (digest, node, other) in made {
-            let is_alone = other.is_some_and(|other| gone.contains(&other));
-            match node.or_else(|| self.nodes.get(&digest).filter(|_| is_alone).copied()) {
-                Some(node) if node[0] == 0 => shown.tree.extend_from_slice(&node),
-                Some(node) => shown.tree.push(node[0]),
-                None => push_hidden(&mut shown.tree, &digest),
-            }
-            if let (true, Some(node)) = (is_alone, self.nodes.get(&digest)) {
-                shown.nodes.push((digest, *node));
-                if node[0] == 1 {
-                    push_hidden(&mut shown.tree, &digest_in(node, 1));
-                    push_hidden(&mut shown.tree, &digest_in(node, 33));
+            shown.seen.push(seen);
+            match part {
+                Part::Entry(entry) if seen != Seen::Digest => {
+                    shown.entries += 1;
+                    shown.tree.push(0);
+                    shown.tree.extend_from_slice(&entry[0]);
+                    shown.tree.extend_from_slice(&entry[1]);
                 }
+                Part::Fork(fork) if seen != Seen::Digest => {
+                    shown.tree.push(1);
+                    if seen == Seen::Top {
+                        for side in &fork.sides {
+                            push_hidden(&mut shown.tree, &side.digest());
+                        }
+                    }
+                }
+                _ => push_hidden(&mut shown.tree, &part.digest()),
             }
         }
         shown
@@ -321,28 +412,38 @@ impl Map {
     pub fn change(&mut self, changes: &[(Digest, Option<Digest>)]) -> Result<(), Refused> {
         let asked = Changes::of(changes);
         let shown = self.shown(&asked.keys, asked.values.len());
-        let made = asked.make(&self.root, &shown.tree)?;
         // the map's own tree has its root
-        let Some((root, rows)) = made else {
+        let Some((root, rows)) = asked.make(&self.root, &shown.tree)? else {
             return Err(Refused::Invalid);
         };
-        let entries_in = |first: &u8| usize::from(*first == 0);
-        let old: usize = shown
-            .nodes
-            .iter()
-            .map(|(_, node)| entries_in(&node[0]))
-            .sum();
-        for (digest, _) in &shown.nodes {
-            self.nodes.remove(digest);
-        }
-        let mut new = 0;
+        // each node stands above nodes of rows before, and what was hidden
+        let mut known = hidden_digests(&self.top, &shown.seen);
         for row in rows.chunks_exact(ROW) {
-            let mut node = [0; NODE];
-            node.copy_from_slice(&row[32..]);
-            new += entries_in(&node[0]);
-            self.nodes.insert(digest_in(row, 0), node);
+            let is_entry = row[32] == 0;
+            if !is_entry && !(known.contains(&row[33..65]) && known.contains(&row[65..])) {
+                return Err(Refused::Invalid);
+            }
+            known.insert(digest_in(row, 0));
         }
-        self.len = self.len + new - old;
+        if !known.contains(&root) {
+            return Err(Refused::Invalid);
+        }
+        let top = std::mem::replace(&mut self.top, Part::Nothing);
+        let mut parts = take_hidden(top, &shown.seen);
+        let mut entries = 0;
+        for row in rows.chunks_exact(ROW) {
+            let (digest, sides) = (digest_in(row, 0), [digest_in(row, 33), digest_in(row, 65)]);
+            let part = if row[32] == 0 {
+                entries += 1;
+                Part::Entry(Box::new(sides))
+            } else {
+                let sides = sides.map(|side| parts.remove(&side).unwrap_or(Part::Nothing));
+                Part::Fork(Box::new(Fork { digest, sides }))
+            };
+            parts.insert(digest, part);
+        }
+        self.top = parts.remove(&root).unwrap_or(Part::Nothing);
+        self.len = self.len + entries - shown.entries;
         self.root = root;
         Ok(())
     }
