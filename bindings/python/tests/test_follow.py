@@ -1,4 +1,5 @@
 """Following logs over HTTP from this machine: sites that hashlib makes, beside the program paxlog where PAXLOG names it."""
+import base64
 import hashlib
 import http.server
 import os
@@ -57,6 +58,14 @@ class Log:
 
     def root(self, size):
         return self.node(0, size) if size else sha(b"")
+
+    def path(self, index, start, end):
+        if end - start == 1:
+            return []
+        middle = start + (1 << (end - start - 1).bit_length() - 1)
+        if index < middle:
+            return self.path(index, start, middle) + [self.node(middle, end)]
+        return self.path(index, middle, end) + [self.node(start, middle)]
 
     def site(self, size):
         """The files of the log's site at a size, by their names."""
@@ -279,6 +288,52 @@ class Follows(unittest.TestCase):
         publish(300)
         self.assertEqual(ask(7), (1, b""))
         self.assertEqual(self.read(self.state), before)
+
+    def test_a_sigsum_proof(self):
+        """The example sigsum.py, over proofs in the form of versions 1 and 2."""
+        seeds = [bytes([n]) * 32 for n in range(5)]
+        keys = [paxidore.ed25519.public_key(seed) for seed in seeds]
+        files = [b"release %d" % n for n in range(7)]
+        sums = [sha(sha(file)) for file in files]
+        signed = [paxidore.ed25519.sign(seeds[1], b"sigsum.org/v1/tree-leaf\0" + checksum) for checksum in sums]
+        log = Log()
+        log.levels[0] = [sha(b"\0" + checksum + signature + sha(keys[1])) for checksum, signature in zip(sums, signed)]
+        log.grow(len(files))
+
+        def proof(version, number, size, time=1700000000):
+            root = log.root(size)
+            text = b"sigsum.org/v1/tree/%s\n%d\n%s\n" % (sha(keys[0]).hex().encode(), size, base64.b64encode(root))
+            short = sums[number][:2].hex() + " " if version == 1 else ""
+            lines = ["version=%d" % version, "log=" + sha(keys[0]).hex()]
+            lines += ["leaf=%s%s %s" % (short, sha(keys[1]).hex(), signed[number].hex()), ""]
+            lines += ["size=%d" % size, "root_hash=" + root.hex(), "signature=" + paxidore.ed25519.sign(seeds[0], text).hex()]
+            for seed, key in zip(seeds[2:], keys[2:]):
+                cosigned = paxidore.ed25519.sign(seed, b"cosignature/v1\ntime %d\n%s" % (time, text)).hex()
+                lines.append("cosignature=%s %d %s" % (sha(key).hex(), time, cosigned))
+            if size > 1:
+                lines += ["", "leaf_index=%d" % number] + ["node_hash=" + node.hex() for node in log.path(number, 0, size)]
+            return "\n".join(lines) + "\n"
+
+        def ask(text, number, *words, submitter=keys[1]):
+            for name, data in (("/proof", text.encode()), ("/file", files[number])):
+                with open(self.folder + name, "wb") as file:
+                    file.write(data)
+            example = os.path.join(os.path.dirname(os.path.dirname(os.path.abspath(__file__))), "examples", "sigsum.py")
+            words = ["--log", keys[0].hex(), "--submitter", submitter.hex(), *words, self.folder + "/proof", self.folder + "/file"]
+            return subprocess.run([sys.executable, example, *words], stderr=subprocess.PIPE).returncode
+
+        three = [word for key in keys[2:] for word in ("--witness", key.hex())]
+        for version, number, size in ((1, 0, 1), (2, 0, 1), (1, 3, 7), (2, 6, 7)):
+            self.assertEqual(ask(proof(version, number, size), number, *three, "--quorum", "3"), 0)
+        text = proof(2, 3, 7)
+        self.assertEqual(ask(text, 3), 0)
+        cut = "\n".join(line for line in text.split("\n") if sha(keys[2]).hex() not in line)
+        self.assertEqual([ask(cut, 3, *three, "--quorum", str(quorum)) for quorum in (2, 3)], [0, 1])
+        others = [text.replace("leaf_index=3", "leaf_index=2"), text.replace("size=7", "size=6"), text.replace("version=2", "version=1")]
+        others += [text.replace(log.path(3, 0, 7)[0].hex(), "00" * 32), text.replace(log.root(7).hex(), "00" * 32), text[:300], ""]
+        others += [text.replace("1700000000", "1700000001")]
+        self.assertEqual([ask(other, 3, *three, "--quorum", "1") for other in others], [1] * len(others))
+        self.assertEqual([ask(text, 4), ask(text, 3, submitter=keys[2])], [1, 1])
 
     @unittest.skipUnless(shutil.which("go") and os.path.isdir("/usr/share/gocode/src/golang.org/x/mod/sumdb"), "no Go with golang.org/x/mod")
     def test_a_checksum_database_of_go(self):
