@@ -3,7 +3,6 @@ use Rattle.std.specs.Prelude.{◌≡◌, ℕ, List}
 use Rattle.ark_paths.specs.Pair.{Digest}
 use Rattle.examples.specs.declared.signed_checkpoints.Stays.{Stays}
 use Rattle.examples.specs.declared.signed_checkpoints.Stays.TheVariants.{Note, Proof}
-use Rattle.log_checkpoints.specs.Receipts.{IsReceiptOf, ShowsEntry}
 use Rattle.log_checkpoints.specs.Witnessing.{head_of}
 use Rattle.log_tiles.specs.Led.{IsProofFault}
 use Rattle.log_tiles.specs.declared.following.Head.{Head}
@@ -21,11 +20,3 @@ abbrev pub IsWhyStays : Policy → List ℕ → List ℕ → Head → List Diges
 IsWhyStays policy origin note held proof (Note fault) = IsClosed policy origin note fault
 IsWhyStays policy origin note held proof (Proof why) =
     (head : Head) × IsSignedHead policy origin note head × IsProofFault held held.size head proof why
-
--- The bytes are a receipt of the entry, which shows it in each log with the size and the root of its checkpoint.
-pub record IsShownBy (policy : Policy) (origin bytes entry : List ℕ) : Type 0 where
-  pub index : ℕ
-  pub size : ℕ
-  pub root : Digest
-  pub receipt : IsReceiptOf policy origin bytes entry index size root
-  pub shown : ShowsEntry bytes entry index size root

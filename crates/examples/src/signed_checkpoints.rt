@@ -1,12 +1,11 @@
 //! A client of a log whose checkpoints are signed: by the log, and by as many witnesses as the client asks for.
 
-ghost use Rattle.std.specs.Prelude.{◌≡◌, IfErr, IfOk, Ok};
-ghost use Rattle.examples.specs.Checkpoints.{IsShownBy, IsSignedHead, IsWhyStays};
-ghost use Rattle.log_checkpoints.specs.Receipts.{IsUnaccepted, LeadsElsewhere};
+ghost use Rattle.std.specs.Prelude.{IfErr, IfOk};
+ghost use Rattle.examples.specs.Checkpoints.{IsSignedHead, IsWhyStays};
 ghost use Rattle.log_tiles.specs.Following.{Continues};
 ghost use Rattle.signed_notes.specs.Views.{policy_parts};
 
-use log_checkpoints::{ReceiptFault, head_of, verify_receipt};
+use log_checkpoints::head_of;
 use log_tiles::{Head, ProofFault, continues_by};
 use signed_notes::{Fault, Policy, open_checkpoint};
 use std::alloc::Global;
@@ -46,31 +45,5 @@ pub fn newer_head(
     match continues_by(alloc, held, held.size, &head, proof) {
         Ok(()) => Ok(head),
         Err(why) => Err(Stays::Proof(why)),
-    }
-}
-
-/// Returns whether a receipt shows that an entry is in the log of a checkpoint that is signed as a client asks.
-///
-/// Errors: those of `verify_receipt`.
-pub fn is_published(
-    alloc: Global,
-    receipt: &[u8],
-    entry: &[u8],
-    origin: &str,
-    policy: &Policy,
-) -> Result<bool, ReceiptFault>
-    // At the receipt's index in each log with the size and the root of its checkpoint, or two pairs that differ and hash alike
-    // are named.
-    ensures shown { result ≡ Ok true
-        → IsShownBy (policy_parts policy.now) origin.now receipt.now entry.now }
-    ensures elsewhere { result ≡ Ok false
-        → LeadsElsewhere (policy_parts policy.now) origin.now receipt.now entry.now }
-    ensures refused { IfErr result
-        (IsUnaccepted (policy_parts policy.now) origin.now receipt.now) }
-{
-    match verify_receipt(alloc, receipt, entry, origin, policy) {
-        Ok(Some(_)) => Ok(true),
-        Ok(None) => Ok(false),
-        Err(fault) => Err(fault),
     }
 }

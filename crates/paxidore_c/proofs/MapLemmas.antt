@@ -8,8 +8,8 @@ use Rattle.merkle_map.specs.KeyProof.{ProofSeen, proof_verdict, IsKeyProofAccept
 use Rattle.merkle_map.specs.Map.{Digest, Key, key_bits}
 use Rattle.merkle_map.specs.ProofBytes.{proof_bytes, proof_spelled, IsProofOf32}
 use Rattle.merkle_map.specs.Sha256.{sha256_map}
-use Rattle.merkle_map.specs.Transition.{ChangeSeen, LeadsOn, LeadsTo}
-use Rattle.merkle_map.specs.Tree.{Shape, shape_digest}
+use Rattle.merkle_map.specs.Transition.{ChangeSeen, LeadsTo}
+use Rattle.merkle_map.specs.Tree.{Shape}
 use Rattle.merkle_map.proofs.ProofReading.{reads-proof-back}
 use Rattle.paxidore_calls.specs.Answer.{CallGivesBy}
 use Rattle.paxidore_c.specs.Maps.{refusing_map, IsProvedBy}
@@ -54,14 +54,13 @@ given-said items (Ok bytes) P (Ok value) is said =
 given-said items (Err error) P (Ok value) is said = absurd cc
 given-said items outcome P (Err refused) is said = tt
 
--- what a changed tree leads to
-pub led : (root made : Digest) (given : Outcome Shape) (tree new : Shape) (own wanted : List ChangeSeen)
-    (found : Option Shape) → given ≡ Ok tree → found ≡ Some new → IfSome found (LeadsOn sha256_map root tree own)
-    → own ≡ wanted → shape_digest sha256_map new ≡ Ok made
-    → IfOk given (λ t. LeadsTo sha256_map root made t wanted)
-led root made given tree new own wanted None is there leads same digest = absurd cc
-led root made given tree new own wanted (Some other) is there leads same digest =
-    let e : other ≡ new = cc in
-    subst (λ o. IfOk o (λ t. LeadsTo sha256_map root made t wanted)) (sym is)
-    (subst (λ changes. LeadsTo sha256_map root made tree changes) same
-    (leads made (ap (shape_digest sha256_map) e ∙ digest)))
+-- what changes of a tree that was read lead to is what they lead to from the bytes
+pub led : {A : Type 0} (digest : A → Digest) (root : Digest) (given : Outcome Shape) (tree : Shape)
+    (own wanted : List ChangeSeen) (result : Outcome (Option A)) → given ≡ Ok tree → own ≡ wanted
+    → IfOk result (λ found. IfSome found (λ made. LeadsTo sha256_map root (digest made) tree own))
+    → IfOk result (λ found. IfSome found (λ made. IfOk given (λ t. LeadsTo sha256_map root (digest made) t wanted)))
+led digest root given tree own wanted result is same leads =
+    subst (λ o. IfOk result (λ found. IfSome found (λ made.
+    IfOk o (λ t. LeadsTo sha256_map root (digest made) t wanted)))) (sym is)
+    (subst (λ changes. IfOk result (λ found. IfSome found (λ made. LeadsTo sha256_map root (digest made) tree changes)))
+    same leads)
