@@ -86,7 +86,7 @@ impl Part {
     }
 }
 
-/// A map with one root, with keys and values of 32 bytes, and proofs of what it has and has not. It takes some 230 bytes an entry.
+/// A map with one root, with keys and values of 32 bytes, and proofs of what it has and has not. It takes some 220 bytes an entry.
 ///
 /// Hash other values first. Keys should be hashes: whoever chooses keys can make a neighbour's proof longer. The root is the same for
 /// each map with these entries, whatever the order of changes.
