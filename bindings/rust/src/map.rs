@@ -420,7 +420,8 @@ impl Map {
         let mut known = hidden_digests(&self.top, &shown.seen);
         for row in rows.chunks_exact(ROW) {
             let is_entry = row[32] == 0;
-            if !is_entry && !(known.contains(&row[33..65]) && known.contains(&row[65..])) {
+            let has_sides = known.contains(&row[33..65]) && known.contains(&row[65..]);
+            if !is_entry && !has_sides {
                 return Err(Refused::Invalid);
             }
             known.insert(digest_in(row, 0));
