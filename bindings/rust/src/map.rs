@@ -178,53 +178,43 @@ enum Seen {
     Digest,
 }
 
-// A tree's bytes, and how they show its parts, each before those below it and the left ones first.
+// A tree's bytes, and how they show its parts, each before those below it and the left ones first; the digests of the hidden ones in
+// that order, and the count of the entries that are shown.
 #[cfg(feature = "std")]
 struct Shown {
     tree: Vec<u8>,
     seen: Vec<Seen>,
+    hidden: Vec<Digest>,
     entries: usize,
 }
 
-// Takes the parts out of a tree that its bytes hide, by their digests.
 #[cfg(feature = "std")]
-fn take_hidden(top: Part, seen: &[Seen]) -> HashMap<Digest, Part> {
-    let (mut hidden, mut parts) = (HashMap::new(), vec![top]);
-    for as_is in seen {
-        match (as_is, parts.pop()) {
-            (Seen::Digest, Some(part)) => {
-                hidden.insert(part.digest(), part);
-            }
-            (Seen::Whole, Some(Part::Fork(fork))) => {
-                let [left, right] = fork.sides;
-                parts.extend([right, left]);
-            }
-            (Seen::Top, Some(Part::Fork(fork))) => {
-                hidden.extend(fork.sides.map(|side| (side.digest(), side)));
-            }
-            _ => (),
-        }
+impl Shown {
+    fn hide(&mut self, part: &Part) {
+        let digest = part.digest();
+        push_hidden(&mut self.tree, &digest);
+        self.hidden.push(digest);
     }
-    hidden
-}
 
-// The digests of the parts that a tree's bytes hide.
-#[cfg(feature = "std")]
-fn hidden_digests(top: &Part, seen: &[Seen]) -> HashSet<Digest> {
-    let (mut hidden, mut parts) = (HashSet::from([NOTHING]), vec![top]);
-    for as_is in seen {
-        match (as_is, parts.pop()) {
-            (Seen::Digest, Some(part)) => {
-                hidden.insert(part.digest());
+    // Takes the parts that the bytes hide out of the tree that they show, by their digests.
+    fn take_hidden(&self, top: Part) -> HashMap<Digest, Part> {
+        let (mut hidden, mut parts) = (HashMap::new(), vec![top]);
+        let mut digests = self.hidden.iter().copied();
+        for seen in &self.seen {
+            match (seen, parts.pop()) {
+                (Seen::Digest, Some(part)) => hidden.extend(digests.next().map(|own| (own, part))),
+                (Seen::Whole, Some(Part::Fork(fork))) => {
+                    let [left, right] = fork.sides;
+                    parts.extend([right, left]);
+                }
+                (Seen::Top, Some(Part::Fork(fork))) => {
+                    hidden.extend(digests.by_ref().take(2).zip(fork.sides));
+                }
+                _ => (),
             }
-            (Seen::Whole, Some(Part::Fork(fork))) => parts.extend([&fork.sides[1], &fork.sides[0]]),
-            (Seen::Top, Some(Part::Fork(fork))) => {
-                hidden.extend(fork.sides.iter().map(Part::digest));
-            }
-            _ => (),
         }
+        hidden
     }
-    hidden
 }
 
 // Changes as the library takes them: the first keys get the values, and those behind them are removed.
@@ -364,6 +354,7 @@ impl Map {
         let mut shown = Shown {
             tree: Vec::new(),
             seen: Vec::with_capacity(made.len()),
+            hidden: Vec::new(),
             entries: 0,
         };
         for (part, other) in made {
@@ -385,12 +376,11 @@ impl Map {
                 Part::Fork(fork) if seen != Seen::Digest => {
                     shown.tree.push(1);
                     if seen == Seen::Top {
-                        for side in &fork.sides {
-                            push_hidden(&mut shown.tree, &side.digest());
-                        }
+                        fork.sides.iter().for_each(|side| shown.hide(side));
                     }
                 }
-                _ => push_hidden(&mut shown.tree, &part.digest()),
+                _ if seen == Seen::Whole => push_hidden(&mut shown.tree, &NOTHING),
+                _ => shown.hide(part),
             }
         }
         shown
@@ -417,7 +407,8 @@ impl Map {
             return Err(Refused::Invalid);
         };
         // each node stands above nodes of rows before, and what was hidden
-        let mut known = hidden_digests(&self.top, &shown.seen);
+        let mut known: HashSet<Digest> = shown.hidden.iter().copied().collect();
+        known.insert(NOTHING);
         for row in rows.chunks_exact(ROW) {
             let is_entry = row[32] == 0;
             let has_sides = known.contains(&row[33..65]) && known.contains(&row[65..]);
@@ -430,7 +421,7 @@ impl Map {
             return Err(Refused::Invalid);
         }
         let top = std::mem::replace(&mut self.top, Part::Nothing);
-        let mut parts = take_hidden(top, &shown.seen);
+        let mut parts = shown.take_hidden(top);
         let mut entries = 0;
         for row in rows.chunks_exact(ROW) {
             let (digest, sides) = (digest_in(row, 0), [digest_in(row, 33), digest_in(row, 65)]);
