@@ -83,13 +83,6 @@ places-fit count size width n some wide below =
 -- ---- a level of each part
 
 module _ {count size width : ℕ} {parts old : List Digest} where
-  pub level-none : CopiesLevel count size width 0 parts old old
-  level-none = record {
-    long = refl;
-    copied = λ n at none. absurd (omega arith);
-    others = λ i out. refl;
-  }
-
   pub level-more : (n : ℕ) (mid digests : List Digest) (place : ℕ) → CopiesLevel count size width n parts old mid
       → 0 < count → 0 < width → place ≡ (count + n) * width - 1 → length digests ≡ width
       → place + length digests ≤ length mid
@@ -149,12 +142,6 @@ power-cases level at less = elim (cases_lt level at) [
 ]
 
 module _ {count size : ℕ} {parts old : List Digest} where
-  pub levels-none : CopiesLevels count size 1 parts old old
-  levels-none = record {
-    long = refl;
-    copied = λ level n at none. absurd (omega (arith, none, pow_pos level));
-  }
-
   pub levels-more : (at : ℕ) (mid new : List Digest) → CopiesLevels count size (2 ^ at) parts old mid
       → CopiesLevel count size (2 ^ at) count parts mid new → CopiesLevels count size (2 ^ at * 2) parts old new
   levels-more at mid new before here = record {

@@ -323,9 +323,9 @@ impl<T: Tiles + Drop> TileDisk<T> {
     fn read_list(&self, position: usize, into: &mut [u8]) -> Result<(), Unread<T::Refusal>>
         requires { length into.old % 32 ≡ 0 }
         ensures { T.Obeys self.now.tiles → HaveDigests (T.has self.now.tiles) self.now.size
-            → 32 * position + length into.old
-            ≤ 32 * stored_count self.now.size → OnOk result (into.new ≡ take (length into.old)
-            (drop (32 * position) (flat_map itself (tiled_digests (T.has self.now.tiles) self.now.size)))) }
+            → 32 * position + length into.old ≤ 32 * stored_count self.now.size
+            → OnOk result (into.new ≡ take (length into.old) (drop (32 * position)
+            (flat_map itself (tiled_digests (T.has self.now.tiles) self.now.size)))) }
     {
         // Its size has at most 57 bits, so that the sum is not cut.
         let _ = &self.size;

@@ -171,8 +171,8 @@ pub fn rows_after<H: MapViews<Input = [u8; 32], Output = [u8; 32]>>(
     tree: MapTree<[u8; 32]>,
     changes: &[Change],
 ) -> Result<Option<([u8; 32], Vec<u8>)>, Error>
-    ensures answer { AnswersBy (rows_found (λ rows. rows.items)) (changed_rows (H.hashes hasher.now) root.now
-        (map change_seen changes.now) tree) result }
+    ensures answer { AnswersBy (rows_found (λ rows. rows.items))
+        (changed_rows (H.hashes hasher.now) root.now (map change_seen changes.now) tree) result }
 
     // Each map with the old root has, after the changes, the new root, or below some bits the given tree and the map's own tree
     // have two different nodes with one hash.
