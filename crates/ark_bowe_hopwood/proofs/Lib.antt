@@ -6,3 +6,4 @@ pub mod SignedTimes
 pub mod Words
 pub mod Relations
 pub mod BitChunks
+pub mod BitRelations

@@ -14,8 +14,8 @@ use Rattle.ark_pedersen.proofs.Halves.{length-bits_of_bytes}
 use Rattle.ark_pedersen.proofs.Relations.{adds_nothing, crossed, length-take-short, both_empty, same_parts, same_bytes}
 use Rattle.ark_bowe_hopwood.specs.BoweHopwood.{Chunk, chunks_of, segment_scalar, signed_times, segments_sum, segments_hash}
 use Rattle.ark_bowe_hopwood.specs.BoweHopwood.{greatest_scalar, is_fitting}
-use Rattle.ark_bowe_hopwood.specs.Binding.{segment_scalars, scalar_differences, signed_combination}
-use Rattle.ark_bowe_hopwood.specs.Binding.{IsWithinSegments, HashesGiveRelations, RelationsAreSome}
+use Rattle.ark_bowe_hopwood.specs.Binding.{segment_scalars, scalar_differences, signed_combination, bit_coefficients}
+use Rattle.ark_bowe_hopwood.specs.Binding.{IsWithinSegments, HashesGiveRelations, RelationsAreSome, BitRelationsAreSome}
 use Rattle.ark_bowe_hopwood.proofs.Scalars.{IsWithin, scalar-within, alone}
 use Rattle.ark_bowe_hopwood.proofs.SignedTimes.{signed_times-add}
 
@@ -53,32 +53,35 @@ unfolding segment_scalars
 length-segment_scalars size zero chunks = refl
 length-segment_scalars size (suc count) chunks = ap suc (length-segment_scalars size count (drop size chunks))
 
+-- where two sums over the segments are one, the combination by the coefficients is zero
+pub relation : {G W : Type 0} {g : Group G} (laws : IsCommutativeGroup g) (windows : Windows W) (elements : List G)
+    (left right : List Bool) → length elements ≡ windows.NUM_WINDOWS
+    → segments_sum g windows.WINDOW_SIZE elements (chunks_of left)
+    ≡ segments_sum g windows.WINDOW_SIZE elements (chunks_of right)
+    → signed_combination g (bit_coefficients windows left right) elements ≡ g.identity
+relation {G} {W} {g} laws windows elements left right long sums =
+    let size = windows.WINDOW_SIZE in
+    let count = windows.NUM_WINDOWS in
+    let ms = segment_scalars size count (chunks_of left) in
+    let ns = segment_scalars size count (chunks_of right) in
+    adds_nothing laws (signed_combination g (scalar_differences ms ns) elements) (signed_combination g ns elements)
+    (combination-differences laws ms ns elements (length-segment_scalars size count (chunks_of left)
+    ∙ sym (length-segment_scalars size count (chunks_of right)))
+    ∙ sym (by_count left) ∙ sums ∙ by_count right)
+  where
+    by_count : (bits : List Bool) → segments_sum g windows.WINDOW_SIZE elements (chunks_of bits)
+        ≡ signed_combination g (segment_scalars windows.WINDOW_SIZE windows.NUM_WINDOWS (chunks_of bits)) elements
+    by_count bits =
+        segments_sum-combination laws windows.WINDOW_SIZE elements (chunks_of bits)
+        ∙ ap (λ n. signed_combination g (segment_scalars windows.WINDOW_SIZE n (chunks_of bits)) elements) long
+
 pub give_relations : {G W : Type 0} {g : Group G} (laws : IsCommutativeGroup g) (coordinate : G → ℕ)
     (windows : Windows W)
     → ((a b : G) → coordinate a ≡ coordinate b → a ≡ b) → HashesGiveRelations g coordinate windows
 give_relations {G} {W} {g} laws coordinate windows told elements left right long fits_left fits_right same =
-    let size = windows.WINDOW_SIZE in
-    let count = windows.NUM_WINDOWS in
-    let ms = segment_scalars size count (chunks_of (bits_of_bytes left)) in
-    let ns = segment_scalars size count (chunks_of (bits_of_bytes right)) in
-    let sums : segments_sum g size elements (chunks_of (bits_of_bytes left))
-    ≡ segments_sum g size elements (chunks_of (bits_of_bytes right)) =
-    told _ _ (done_injective _ _ (sym (hash_is left fits_left) ∙ same ∙ hash_is right fits_right)) in
-    adds_nothing laws (signed_combination g (scalar_differences ms ns) elements) (signed_combination g ns elements)
-    (combination-differences laws ms ns elements (length-segment_scalars size count (chunks_of (bits_of_bytes left))
-    ∙ sym (length-segment_scalars size count (chunks_of (bits_of_bytes right))))
-    ∙ sym (by_count left) ∙ sums ∙ by_count right)
+    relation laws windows elements (bits_of_bytes left) (bits_of_bytes right) long
+    (told _ _ (done_injective _ _ (sym (hash_is left fits_left) ∙ same ∙ hash_is right fits_right)))
   where
-    by_count : (input : List ℕ) → segments_sum g windows.WINDOW_SIZE elements (chunks_of (bits_of_bytes input))
-        ≡ signed_combination g (segment_scalars windows.WINDOW_SIZE windows.NUM_WINDOWS
-        (chunks_of (bits_of_bytes input)))
-        elements
-    by_count input =
-        segments_sum-combination laws windows.WINDOW_SIZE elements (chunks_of (bits_of_bytes input))
-        ∙ ap (λ n. signed_combination g (segment_scalars windows.WINDOW_SIZE n (chunks_of (bits_of_bytes input)))
-        elements)
-        long
-
     hash_is : (input : List ℕ) → IsWithinSegments windows input → segments_hash g coordinate windows elements input
         ≡ Ok (coordinate (segments_sum g windows.WINDOW_SIZE elements (chunks_of (bits_of_bytes input))))
     hash_is input fits =
@@ -179,20 +182,27 @@ module _ (order size : ℕ) (half : 2 * greatest_scalar size < order) where
       (λ same short. same_chunks count (drop size a) (drop size b) same short
       (λ k d l. none (suc k) d (omega (arith, l))))
 
-pub are_some : {W : Type 0} (order : ℕ) (windows : Windows W) → 0 < order → RelationsAreSome order windows
+-- as many bits whose coefficients are all multiples of the order are the same
+pub bits_are_some : {W : Type 0} (order : ℕ) (windows : Windows W) → 0 < order → BitRelationsAreSome order windows
 unfolding is_fitting
-are_some order windows some fitting left right bytes_left bytes_right long within none =
+bits_are_some order windows some fitting left right long within none =
     let most = greatest_scalar windows.WINDOW_SIZE in
     let fits : most ≤ (order - 1) / 2 = leb-true _ _ fitting in
-    let bits_long : length (bits_of_bytes left) ≡ length (bits_of_bytes right) =
-    length-bits_of_bytes left ∙ ap (λ n. 8 * n) long ∙ sym (length-bits_of_bytes right) in
-    same_bytes left right bytes_left bytes_right long
-    (bits_of_chunks (bits_of_bytes left) (bits_of_bytes right) bits_long
-    (same_chunks order windows.WINDOW_SIZE (omega (arith, fits)) windows.NUM_WINDOWS (chunks_of (bits_of_bytes left))
-    (chunks_of (bits_of_bytes right)) (chunks_long (bits_of_bytes left) (bits_of_bytes right) bits_long)
-    (few (chunks_few (bits_of_bytes left)) (length-bits_of_bytes left)) none))
+    bits_of_chunks left right long
+    (same_chunks order windows.WINDOW_SIZE (omega (arith, fits)) windows.NUM_WINDOWS (chunks_of left) (chunks_of right)
+    (chunks_long left right long) (few (chunks_few left)) none)
   where
-    few : 3 * length (chunks_of (bits_of_bytes left)) ≤ length (bits_of_bytes left) + 2
-        → length (bits_of_bytes left) ≡ 8 * length left
-        → length (chunks_of (bits_of_bytes left)) ≤ windows.WINDOW_SIZE * windows.NUM_WINDOWS
-    few l e = omega (arith, l, e, within)
+    few : 3 * length (chunks_of left) ≤ length left + 2
+        → length (chunks_of left) ≤ windows.WINDOW_SIZE * windows.NUM_WINDOWS
+    few l = omega (arith, l, within)
+
+pub are_some : {W : Type 0} (order : ℕ) (windows : Windows W) → 0 < order → RelationsAreSome order windows
+are_some order windows some fitting left right bytes_left bytes_right long within none =
+    same_bytes left right bytes_left bytes_right long
+    (bits_are_some order windows some fitting (bits_of_bytes left) (bits_of_bytes right)
+    (length-bits_of_bytes left ∙ ap (λ n. 8 * n) long ∙ sym (length-bits_of_bytes right))
+    (short (length-bits_of_bytes left)) none)
+  where
+    short : length (bits_of_bytes left) ≡ 8 * length left
+        → length (bits_of_bytes left) ≤ 3 * (windows.WINDOW_SIZE * windows.NUM_WINDOWS)
+    short e = omega (arith, e, within)

@@ -27,7 +27,7 @@ module _ {G : Type 0} {g : Group G} (laws : IsCommutativeGroup g) where
       ∙ sym (signed_times-add laws (digit chunk) (pos 16 *ℤ rest) x)
 
   -- over elements with their sixteenfolds, it is that of the segments
-  digits_sum-segments : (size : ℕ) (elements : List G) (chunks : List Chunk) → digits_sum g
+  pub digits_sum-segments : (size : ℕ) (elements : List G) (chunks : List Chunk) → digits_sum g
       (concatenation (map (sixteenfolds g size) elements)) chunks ≡ segments_sum g size elements chunks
   unfolding digits_sum segments_sum
   digits_sum-segments size [] chunks = refl

@@ -1,5 +1,5 @@
 -- Chunks of texts, three bytes after three.
-use Rattle.std.proofs.Common.{◌≡◌, ℕ, zero, suc, ◌+◌, ◌-◌, ◌*◌, ◌/◌, ◌%◌, ◌^◌, ◌<◌, ◌≤◌, min, Bool, eqb, List, [], ◌∷◌, ◌++◌, length, take, drop, replicate, get_or, inl, inr, refl, sym, ap, ◌∙◌, arith}
+use Rattle.std.proofs.Common.{◌≡◌, ℕ, zero, suc, ◌+◌, ◌-◌, ◌*◌, ◌/◌, ◌%◌, ◌^◌, ◌<◌, ◌≤◌, min, Bool, eqb, List, [], ◌∷◌, ◌++◌, length, take, drop, replicate, inl, inr, refl, sym, ap, ◌∙◌, arith}
 use Rattle.std.specs.Int.{div_ceil}
 use Rattle.std.proofs.lemmas.Bool.{cases_lt}
 use Rattle.std.proofs.lemmas.List.{append-nil}
@@ -9,6 +9,7 @@ use Rattle.ark_groups.specs.Group.{Group, IsCommutativeGroup}
 use Rattle.ark_groups.specs.Bits.{bits_of_number}
 use Rattle.ark_groups.proofs.Multiples.{right_identity}
 use Rattle.ark_pedersen.specs.Pedersen.{bits_of_bytes}
+use Rattle.ark_pedersen.proofs.ByteLists.{IsBytes-append, IsBytes-zeros}
 use Rattle.ark_pedersen.proofs.BitSums.{bits_of_number-add, bits_of_bytes-number, number_of_bytes-below}
 use Rattle.ark_bowe_hopwood.specs.BoweHopwood.{Chunk, chunks_of, digits_sum}
 use Rattle.ark_bowe_hopwood.proofs.Chunks.{chunks_of-append, chunks_of-padded, length-chunks_of, digits_sum-behind, digits_sum-nothing}
@@ -88,23 +89,6 @@ three_bytes-below [] fits = omega arith
 three_bytes-below (a ∷ []) fits = let x = fits 0 in omega arith
 three_bytes-below (a ∷ b ∷ []) fits = let x = fits 0 in let y = fits 1 in omega arith
 three_bytes-below (a ∷ b ∷ c ∷ t) fits = let x = fits 0 in let y = fits 1 in let z = fits 2 in omega arith
-
--- a byte in front of bytes
-IsBytes-front : (x : ℕ) (t : List ℕ) → x < 256 → IsBytes t → IsBytes (x ∷ t)
-IsBytes-front x t small fits = λ i. by_index i
-  where
-    by_index : (i : ℕ) → get_or (x ∷ t) i 0 < 256
-    by_index zero = small
-    by_index (suc i) = fits i
-
-pub IsBytes-append : (a b : List ℕ) → IsBytes a → IsBytes b → IsBytes (a ++ b)
-IsBytes-append [] b first second = second
-IsBytes-append (x ∷ a) b first second = IsBytes-front x (a ++ b) (first 0)
-    (IsBytes-append a b (λ i. first (suc i)) second)
-
-IsBytes-zeros : (n : ℕ) → IsBytes (replicate n 0)
-IsBytes-zeros zero = λ i. omega arith
-IsBytes-zeros (suc n) = IsBytes-front 0 (replicate n 0) (omega arith) (IsBytes-zeros n)
 
 number_of_zeros : (n : ℕ) → number_of_bytes (replicate n 0) ≡ 0
 number_of_zeros zero = refl

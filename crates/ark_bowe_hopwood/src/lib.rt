@@ -11,7 +11,7 @@ mod sums;
 mod text;
 mod two_to_one;
 
-pub use binding::hashes_bind;
+pub use binding::{bit_hashes_bind, hashes_bind, nodes_bind};
 pub use bits::hash_bits;
 pub use crh::{CRH, parameters_of};
 pub use node::{NodeCRH, NodeParameters, hash_node};

@@ -1,5 +1,7 @@
 pub mod BitSums
+pub mod ByteLists
 pub mod Copies
+pub mod Couples
 pub mod DrawnLists
 pub mod Halves
 pub mod Iterates
@@ -7,4 +9,5 @@ pub mod PedersenSums
 pub mod Shapes
 pub mod Windows
 pub mod Relations
+mod SolvedRelations
 pub mod BitPlaces

@@ -205,7 +205,7 @@ module _ (r size : ℕ) (pos : 0 < r) (fits : 2 ^ size ≤ r) where
 
 -- ---- bytes
 
-number_of_bits-bits_of_number : (k n : ℕ) → n < 2 ^ k → number_of_bits (bits_of_number k n) ≡ n
+pub number_of_bits-bits_of_number : (k n : ℕ) → n < 2 ^ k → number_of_bits (bits_of_number k n) ≡ n
 unfolding number_of_bits bits_of_number
 number_of_bits-bits_of_number zero n below = sym (none below)
   where

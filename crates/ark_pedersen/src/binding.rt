@@ -8,11 +8,13 @@ ghost use Rattle.ark_groups.specs.Bits.{number_of_bits};
 ghost use Rattle.ark_pedersen.specs.Pedersen.{bits_of_bytes};
 ghost use Rattle.ark_pedersen.specs.Binding.{window_numbers, differences, windows_fit};
 ghost use Rattle.ark_pedersen.specs.Binding.{relation_outcome, IsRelation, AreAllZero};
+ghost use Rattle.ark_pedersen.specs.Binding.{CouplesGiveRelations, CoupleRelationsAreSome};
+ghost use Rattle.ark_pedersen.specs.Binding.{RelationsGiveElements, RelationsTellElements};
 
 use crate::bits::bytes_to_bits;
 use crate::window::Window;
 use ark_base::error::{Error, Refusal};
-use ark_groups::ec::AdditiveGroup;
+use ark_groups::ec::{AdditiveGroup, PrimeOrderGroup};
 use ark_groups::ff::{Field, element_of_bits};
 use std::alloc::Global;
 
@@ -102,3 +104,22 @@ fn differences_of<F: Field>(
     }
     Ok(found)
 }
+
+/// States that two couples of inputs with one hash give a relation among the elements of the windows, as a tree's nodes have
+/// them: `TwoToOneCRH::evaluate`, and `compress` by the digests' canonical bytes. Under an injective map of the hash it is
+/// the same. Couples of one length that differ have a coefficient that is not 0.
+pub fn couples_bind<C: AdditiveGroup, W: Window>()
+    ensures relation { CouplesGiveRelations C.group C.ScalarField.MODULUS W.Window }
+    ensures some { CoupleRelationsAreSome C.ScalarField.MODULUS W.Window }
+{}
+
+/// States that a relation gives an element whose coefficient has an inverse modulo the order as a combination of the others.
+/// Over two elements that is the logarithm of one to the base of the other.
+pub fn relations_give_elements<C: AdditiveGroup>()
+    ensures { RelationsGiveElements C.group C.ScalarField.MODULUS }
+{}
+
+/// States that in a group of prime order the others of a relation tell an element whose coefficient is not 0.
+pub fn relations_tell_elements<C: PrimeOrderGroup>()
+    ensures { RelationsTellElements C.group C.ScalarField.MODULUS }
+{}

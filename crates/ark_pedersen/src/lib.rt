@@ -11,7 +11,9 @@ mod sums;
 mod two_to_one;
 mod window;
 
-pub use binding::{relation_of, windows_fit};
+pub use binding::{
+    couples_bind, relation_of, relations_give_elements, relations_tell_elements, windows_fit,
+};
 pub use bits::{bytes_to_bits, hash_bits};
 pub use crh::{CRH, doublings_of, parameters_of};
 pub use generators::{drawn_lists, generator_at, iterates_of, lists_of};

@@ -34,6 +34,10 @@ HasOrder = (x : Jubjub) → times jubjub order x ≡ jubjub.identity
 abbrev pub HasPrimeOrder : Type 0
 HasPrimeOrder = (n : ℕ) (x : Jubjub) → times jubjub n x ≡ jubjub.identity → (n % order ≡ 0 → ⊥) → x ≡ jubjub.identity
 
+-- a number that the order does not divide has an inverse modulo it
+abbrev pub HaveInverses : Type 0
+HaveInverses = (n : ℕ) → (n % order ≡ 0 → ⊥) → (z : ℕ) × (n * z % order ≡ 1)
+
 -- the first coordinate of an element tells it
 abbrev pub FirstCoordinatesTell : Type 0
 FirstCoordinatesTell = (a b : Jubjub) → (coordinates a).x ≡ (coordinates b).x → a ≡ b

@@ -1,10 +1,11 @@
 //! Elements as 32 bytes.
 
-ghost use Rattle.std.specs.Prelude.{◌≡◌, ◌*◌, ◌%◌, ◌^◌, IfOk, IfErr};
+ghost use Rattle.std.specs.Prelude.{◌≡◌, ◌≤◌, ◌*◌, ◌%◌, ◌^◌, Err, Ok, IfOk, IfErr};
 ghost use Rattle.std.specs.Int.{from_bool};
 ghost use Rattle.ark_groups.specs.Words.{number};
 ghost use Rattle.jubjub.specs.declared.element.Jubjub.{Jubjub};
 ghost use Rattle.jubjub.specs.Elements.{coordinates};
+ghost use Rattle.jubjub.specs.Jubjub.{p};
 ghost use Rattle.jubjub.specs.Compressed.{compressed, y_in, parity_in, IsAt, IsFaultAt, IsFault};
 ghost use Rattle.jubjub.specs.Values.{value};
 
@@ -92,6 +93,9 @@ impl Jubjub {
         ensures ok { IfOk result (λ e. bytes.now ≡ compressed (coordinates e)) }
         ensures own { (e : Jubjub) → bytes.now ≡ compressed (coordinates e) → result ≡ Ok e }
         ensures err { IfErr result (λ fault. IsFault bytes.now fault) }
+
+        // This is the first fault. No two of the others are there together.
+        ensures first { p ≤ y_in bytes.now → result ≡ Err PointFault.NotBelowModulus }
     {
         let (y, odd) = told(bytes);
         if !is_below(y, Bls12_381Fr::modulus()) {

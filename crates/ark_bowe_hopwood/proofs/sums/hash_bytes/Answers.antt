@@ -3,8 +3,8 @@ use Rattle.std.proofs.lemmas.List.{append-nil}
 use Rattle.ark_base.specs.Outcome.{Outcome}
 use Rattle.ark_base.specs.Reading.{IsBytes}
 use Rattle.ark_pedersen.specs.Pedersen.{lists_in}
+use Rattle.ark_pedersen.proofs.ByteLists.{IsBytes-append}
 use Rattle.ark_bowe_hopwood.proofs.Hashes.{hash_of_text}
-use Rattle.ark_bowe_hopwood.proofs.Words.{IsBytes-append}
 use Rattle.ark_bowe_hopwood.proofs.sums.hash_bytes.Goals as goal
 
 pub returns : goal.returns

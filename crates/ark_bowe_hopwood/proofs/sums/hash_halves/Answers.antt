@@ -4,9 +4,9 @@ use Rattle.ark_base.specs.Outcome.{Outcome}
 use Rattle.ark_base.specs.Reading.{IsBytes}
 use Rattle.ark_pedersen.specs.Pedersen.{window_bits, lists_in, full_halves}
 use Rattle.ark_pedersen.proofs.Halves.{length-full_halves, of_halves-full}
+use Rattle.ark_pedersen.proofs.ByteLists.{IsBytes-append}
 use Rattle.ark_bowe_hopwood.specs.BoweHopwood.{bowe_hopwood_hash}
 use Rattle.ark_bowe_hopwood.proofs.Hashes.{hash_of_text}
-use Rattle.ark_bowe_hopwood.proofs.Words.{IsBytes-append}
 use Rattle.ark_bowe_hopwood.proofs.sums.hash_halves.Goals as goal
 
 pub returns : goal.returns

@@ -6,9 +6,10 @@ use Rattle.ark_base.specs.Laws.Steps.{IsBytes-drop}
 use Rattle.ark_groups.specs.Group.{Group, IsCommutativeGroup}
 use Rattle.ark_groups.specs.Bits.{bits_of_number}
 use Rattle.ark_pedersen.specs.Pedersen.{lists_in, concatenation}
+use Rattle.ark_pedersen.proofs.ByteLists.{IsBytes-append}
 use Rattle.ark_bowe_hopwood.specs.BoweHopwood.{chunks_of, digits_sum}
 use Rattle.ark_bowe_hopwood.proofs.Chunks.{digits_sum-done}
-use Rattle.ark_bowe_hopwood.proofs.Words.{digits_sum-part, three_bytes, three_bytes-below, IsBytes-append}
+use Rattle.ark_bowe_hopwood.proofs.Words.{digits_sum-part, three_bytes, three_bytes-below}
 use Rattle.ark_bowe_hopwood.proofs.sums.sum_of_text.Goals as goal
 
 -- the chunks of three bytes are added
