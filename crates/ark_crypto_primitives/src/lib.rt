@@ -36,7 +36,7 @@ pub mod ec {
         Additive, AdditiveGroup, CurveGroup, FixedBaseGroup, FromDigest, PrimeOrderGroup, Residues,
         SWCoordinates, SWPoint, Small, SmallModulus, TECoordinates, TEPoint, ToldByX,
     };
-    pub use ark_schemes::from_label::{elements_of_label, group_hash};
+    pub use ark_schemes::from_label::{elements_of_label, group_hash, texts_are_apart};
     pub use jubjub;
 }
 
@@ -70,6 +70,7 @@ pub mod commitment {
         pub use ark_schemes::commitment::pedersen::{
             Commitment, Parameters, Randomness, Window, opening_relation_of,
         };
+        pub use ark_schemes::from_label::pedersen_commitment_from_label;
     }
 
     /// Maps of such a commitment.
@@ -128,7 +129,7 @@ pub mod crh {
     pub mod pedersen {
         pub use ark_pedersen::{
             CRH, Parameters, TwoToOneCRH, Window, Windows4x64, Windows4x256, Windows63x9,
-            bytes_to_bits, hash_bits, relation_of, windows_fit,
+            bytes_to_bits, couples_bind, hash_bits, relation_of, windows_fit,
         };
         pub use ark_schemes::from_label::pedersen_from_label;
     }
@@ -136,8 +137,8 @@ pub mod crh {
     /// The first coordinate of sums of elements, each as often as a signed digit of three bits says.
     pub mod bowe_hopwood {
         pub use ark_bowe_hopwood::{
-            CHUNK_SIZE, CRH, NodeCRH, NodeParameters, Parameters, TwoToOneCRH, hash_bits,
-            hash_node, hashes_bind,
+            CHUNK_SIZE, CRH, NodeCRH, NodeParameters, Parameters, TwoToOneCRH, bit_hashes_bind,
+            hash_bits, hash_node, hashes_bind, nodes_bind,
         };
         pub use ark_schemes::from_label::bowe_hopwood_from_label;
     }

@@ -4,8 +4,7 @@ use Rattle.std.specs.Option.{option_map_or}
 use Rattle.std.specs.List.{range_with_len}
 use Rattle.std.proofs.lemmas.List.{map-append, length-map}
 use Rattle.std.proofs.lemmas.List.FromFn.{map-range_with_len_more, length-map-range_with_len}
-use Rattle.ark_base.specs.Digits.{bytes_of_number}
-use Rattle.ark_schemes.specs.GroupHash.{group_digest, first_found, group_hash, AreOfLabel}
+use Rattle.ark_schemes.specs.GroupHash.{group_digest, first_found, group_hash, AreOfTexts}
 
 one_byte_more : (i : ℕ) → i < 256 → 256 - i ≡ suc (256 - (i + 1))
 one_byte_more i l = omega (arith, l)
@@ -50,9 +49,9 @@ one_element_more f front whole x i is found before =
     plain : (i : ℕ) → 0 + i ≡ i
     plain i = omega arith
 
--- the elements of a label are as many as were asked for
-pub as_many : {G : Type 0} (find : List ℕ → Option G) (label : List ℕ) (count : ℕ) (elements : List G)
-    → AreOfLabel find label count elements → length elements ≡ count
-as_many find label count elements are =
+-- the elements of texts are as many as were asked for
+pub as_many : {G : Type 0} (find : List ℕ → Option G) (label : List ℕ) (text : ℕ → List ℕ) (count : ℕ)
+    (elements : List G) → AreOfTexts find label text count elements → length elements ≡ count
+as_many find label text count elements are =
     sym (length-map elements (λ x. Some x)) ∙ ap length are
-    ∙ length-map-range_with_len (λ i. group_hash find label (bytes_of_number 4 i)) 0 count
+    ∙ length-map-range_with_len (λ i. group_hash find label (text i)) 0 count

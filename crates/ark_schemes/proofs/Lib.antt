@@ -1,3 +1,4 @@
+mod LabelTexts
 pub mod Mixing
 pub mod PedersenCommitments
 pub mod Pieces

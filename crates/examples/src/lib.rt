@@ -9,6 +9,7 @@ pub mod log;
 pub mod own;
 pub mod plain;
 pub mod reveal;
+pub mod sealed_bids;
 pub mod signed_checkpoints;
 pub mod store;
 pub mod transcript;
