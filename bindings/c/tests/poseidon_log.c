@@ -1,6 +1,6 @@
 /* Logs over circomlib's hash from C, against a model that hashes each pair by paxidore_poseidon. It prints how many checks passed, and
  * ends with 1 where one failed. */
-#include "paxidore.h"
+#include "paxidore_leanimt.h"
 
 #include <stdio.h>
 #include <stdlib.h>
@@ -101,6 +101,65 @@ static void kept(size_t step) {
     }
 }
 
+/* Elements that are changed, each in a log of each size: roots and paths are those of the changed list, and what stands behind stays. */
+static void changed(void) {
+    static uint8_t stored[2 * MOST][32], again[2 * MOST][32];
+    size_t size = 0, stored_len = 0;
+    for (uint32_t drawn = 1; size < MOST - 2;) {
+        size_t more_len, index;
+        CHECK(paxidore_poseidon_log_append(stored[stored_len], 2 * MOST - stored_len, &more_len, table, table_len, stored[0], stored_len, size,
+                                           elements[size], 1) == PAXIDORE_OK);
+        stored_len += more_len, size++;
+        memset(stored[stored_len], 0xee, 32);
+        for (int times = 0; times < 3; times++) {
+            uint8_t root[32], expected[32], path[PAXIDORE_LOG_PATHBYTES_MAX], beside[7][32];
+            size_t len, old;
+            drawn = 1664525 * drawn + 1013904223;
+            index = (drawn >> 8) % size, old = 1 + (drawn >> 20) % size;
+            if (times == 0)
+                memset(elements[index], 0, 32); /* a member leaves */
+            else
+                elements[index][times] ^= (uint8_t)(drawn >> 24);
+            CHECK(paxidore_poseidon_log_set(stored[0], stored_len + times % 2, table, table_len, size, index, elements[index]) == PAXIDORE_OK);
+            CHECK(stored[stored_len][0] == 0xee && stored[stored_len][31] == 0xee);
+            CHECK(paxidore_poseidon_log_append(again[0], 2 * MOST, &len, table, table_len, NULL, 0, 0, elements[0], size) == PAXIDORE_OK);
+            CHECK(len == stored_len && memcmp(again, stored, 32 * len) == 0);
+            model(size, index, expected, beside);
+            CHECK(paxidore_poseidon_log_root(root, table, table_len, stored[0], stored_len, size) == PAXIDORE_OK);
+            CHECK(memcmp(root, expected, 32) == 0);
+            size_t digests = model(old, index % old, expected, beside);
+            CHECK(paxidore_poseidon_log_root(root, table, table_len, stored[0], stored_len, old) == PAXIDORE_OK);
+            CHECK(memcmp(root, expected, 32) == 0);
+            CHECK(paxidore_poseidon_log_inclusion(path, sizeof path, &len, table, table_len, stored[0], stored_len, old, index % old) ==
+                  PAXIDORE_OK);
+            CHECK(len == 32 * digests && memcmp(path, beside, len) == 0);
+        }
+    }
+    /* what is refused leaves the memory */
+    uint8_t far[32], copy[2 * MOST][32];
+    memset(far, 0xff, 32), memcpy(copy, stored, sizeof copy);
+#define LEAVES(call, code) CHECK((call) == (code) && memcmp(copy, stored, sizeof copy) == 0)
+    LEAVES(paxidore_poseidon_log_set(stored[0], stored_len, table, table_len, size, size, elements[0]), PAXIDORE_E_INDEX);
+    LEAVES(paxidore_poseidon_log_set(stored[0], stored_len, table, table_len, size, SIZE_MAX, elements[0]), PAXIDORE_E_INDEX);
+    LEAVES(paxidore_poseidon_log_set(stored[0], stored_len, table, table_len, size, (size_t)1 << 63, elements[0]), PAXIDORE_E_INDEX);
+    LEAVES(paxidore_poseidon_log_set(stored[0], stored_len, table, table_len, size, size, MODULUS), PAXIDORE_E_INDEX);
+    LEAVES(paxidore_poseidon_log_set(stored[0], stored_len, table, table_len, size, size - 1, MODULUS), PAXIDORE_E_INVALID);
+    LEAVES(paxidore_poseidon_log_set(stored[0], stored_len, table, table_len, size, 0, far), PAXIDORE_E_INVALID);
+    LEAVES(paxidore_poseidon_log_set(stored[0], stored_len - 1, table, table_len, size, 0, elements[0]), PAXIDORE_E_SIZE);
+    LEAVES(paxidore_poseidon_log_set(NULL, 0, table, table_len, 1, 0, elements[0]), PAXIDORE_E_SIZE);
+    LEAVES(paxidore_poseidon_log_set(NULL, 0, table, table_len, 0, 0, elements[0]), PAXIDORE_E_INDEX);
+    LEAVES(paxidore_poseidon_log_set(stored[0], stored_len, table, table_len, (size_t)1 << 63, 0, elements[0]), PAXIDORE_E_SIZE);
+    LEAVES(paxidore_poseidon_log_set(stored[0], stored_len, table, table_len, SIZE_MAX, 0, elements[0]), PAXIDORE_E_SIZE);
+    LEAVES(paxidore_poseidon_log_set(stored[0], stored_len, three, three_len, size, 0, elements[0]), PAXIDORE_E_COUNT);
+    LEAVES(paxidore_poseidon_log_set(stored[0], stored_len, table, table_len - 1, size, 0, elements[0]), PAXIDORE_E_TRUNCATED);
+    LEAVES(paxidore_poseidon_log_set(stored[0], stored_len, NULL, 0, size, 0, elements[0]), PAXIDORE_E_TRUNCATED);
+    /* a stored digest that is hashed and is no element: high up, so that others would have been written before it */
+    memcpy(stored[125], MODULUS, 32), memcpy(copy, stored, sizeof copy);
+    LEAVES(paxidore_poseidon_log_set(stored[0], stored_len, table, table_len, size, 3, elements[5]), PAXIDORE_E_INVALID);
+    LEAVES(paxidore_poseidon_log_set(stored[0], stored_len, table, table_len, size, 63, MODULUS), PAXIDORE_E_INVALID);
+    CHECK(paxidore_poseidon_log_set(stored[0], stored_len, table, table_len, size, 63, elements[5]) == PAXIDORE_OK);
+}
+
 static void refusals(void) {
     uint8_t root[32], same[32], bad[3][32], path[64], stored[8][32], more[8][32];
     size_t len = 7;
@@ -165,6 +224,7 @@ int main(void) {
     for (size_t step = 1; step < 40; step += 6)
         kept(step);
     refusals();
+    changed();
     printf("%d passed, %d failed\n", passed, failed);
     return failed != 0;
 }

@@ -1,6 +1,7 @@
 /* Each request for memory refused in turn: the answer is PAXIDORE_E_MEMORY, nothing is lost and no buffer is touched. A million
  * calls leave nothing behind. Linked with -Wl,--wrap=malloc,--wrap=realloc,--wrap=free. */
 #include "paxidore_join.h"
+#include "paxidore_leanimt.h"
 
 #include <stdio.h>
 #include <string.h>
@@ -59,7 +60,7 @@ static uint8_t map_tree[131] = {1, 0}, map_root[32], map_proof[64], absent_proof
 static size_t map_proof_len, absent_len;
 
 /* four elements, and the log of them in the hash of two */
-static uint8_t elements[4 * 32], element_root[32], element_path[64], element_log[7 * 32];
+static uint8_t elements[4 * 32], element_root[32], element_path[64], element_log[7 * 32], to_log[7 * 32];
 static size_t element_path_len;
 
 static int32_t call(int which) {
@@ -98,7 +99,8 @@ static int32_t call(int which) {
     case 25: return paxidore_poseidon_verify(table, table_len, element_root, 4, 2, elements + 64, element_path, element_path_len);
     case 26: return paxidore_poseidon_log_append(to_more, 8, &to_len, table, table_len, element_log, 3, 2, elements + 64, 2);
     case 27: return paxidore_poseidon_log_root(to_root, table, table_len, element_log, 7, 4);
-    default: return paxidore_poseidon_log_inclusion(to_path, sizeof to_path, &to_len, table, table_len, element_log, 7, 4, 2);
+    case 28: return paxidore_poseidon_log_inclusion(to_path, sizeof to_path, &to_len, table, table_len, element_log, 7, 4, 2);
+    default: return paxidore_poseidon_log_set(to_log, 7, table, table_len, 4, 2, ZEROS);
     }
 }
 
@@ -143,8 +145,9 @@ int main(void) {
         paxidore_poseidon_path(element_path, sizeof element_path, &element_path_len, table, table_len, elements, 4, 2) != PAXIDORE_OK ||
         paxidore_poseidon_log_append(element_log, 7, &to_len, table, table_len, NULL, 0, 0, elements, 4) != PAXIDORE_OK)
         failed++;
-    for (int which = 0; which < 29; which++) {
+    for (int which = 0; which < 30; which++) {
         memcpy(to_state, begun, sizeof begun);
+        memcpy(to_log, element_log, sizeof to_log);
         calls = 0;
         int is_well = call(which) == PAXIDORE_OK && calls > 0 && live == 0;
         long most = calls;
@@ -157,6 +160,7 @@ int main(void) {
             memset(to_table, 0xaa, sizeof to_table);
             memset(to_prepared, 0xaa, sizeof to_prepared);
             memcpy(to_state, begun, sizeof begun);
+            memcpy(to_log, element_log, sizeof to_log);
             to_len = 7;
             left = refused;
             int32_t answer = call(which);
@@ -166,7 +170,7 @@ int main(void) {
                       is_filled(to_proof, sizeof to_proof) && is_filled(to_more, sizeof to_more) &&
                       is_filled(to_rows, sizeof to_rows) && is_filled(to_table, sizeof to_table) &&
                       is_filled(to_prepared, sizeof to_prepared) &&
-                      memcmp(to_state, begun, sizeof begun) == 0;
+                      memcmp(to_state, begun, sizeof begun) == 0 && memcmp(to_log, element_log, sizeof to_log) == 0;
         }
         if (is_well) {
             passed++;

@@ -13,6 +13,9 @@ sibling is its own parent::
     log = poseidon.Log()
     log.append([11, 12, 13])
     poseidon.verify(log.root(), 3, 1, 12, log.inclusion(1))
+    log.set(0, 0)
+
+The last line removes a member as Semaphore does: its leaf becomes 0, and all others stay at their indexes.
 
 The first hash of so many elements generates the constants for that count, which takes milliseconds.
 """
@@ -51,6 +54,7 @@ _log_append = _call("poseidon_log_append", ctypes.c_int32, *_written, *_kept, _b
 _log_kept = _call("log_kept", _size, _size)
 _log_root = _call("poseidon_log_root", ctypes.c_int32, ctypes.c_void_p, *_kept)
 _log_inclusion = _call("poseidon_log_inclusion", ctypes.c_int32, *_written, *_kept, _size)
+_log_set = _call("poseidon_log_set", ctypes.c_int32, ctypes.c_void_p, _size, _bytes, _size, _size, _size, _bytes)
 
 MODULUS = 0x30644E72E131A029B85045B68181585D2833E84879B9709143E1F593F0000001
 MOST_INPUTS = 16
@@ -188,9 +192,13 @@ class Log:
         raise TypeError("a Log is neither copied nor pickled")
 
     # what is lent is an argument of the call alone
+    def _lent_digests(self) -> "Tuple[ctypes.Array[ctypes.c_char], int]":
+        digests = self._digests
+        return (ctypes.c_char * len(digests)).from_buffer(digests), len(digests) // DIGEST_BYTES
+
     def _lent(self, size: int) -> "Tuple[bytes, int, ctypes.Array[ctypes.c_char], int, int]":
-        table, digests = _table_for(2), self._digests
-        return table, len(table), (ctypes.c_char * len(digests)).from_buffer(digests), len(digests) // DIGEST_BYTES, size
+        table = _table_for(2)
+        return (table, len(table), *self._lent_digests(), size)
 
     def append(self, elements: Sequence[int]) -> int:
         """Appends numbers below ``MODULUS``, whole or not at all, and returns the new size. ``ElementError``, ``OutOfMemory``."""
@@ -221,6 +229,19 @@ class Log:
         while batch := list(itertools.islice(left, _BATCH)):
             self.append(batch)
         return len(self)
+
+    def set(self, index: int, element: int) -> None:
+        """Changes the element at an index, and hashes the complete subtrees over it: at most one pair a level.
+
+        Roots and paths of earlier sizes are then those of the changed elements too. Semaphore sets a member that leaves to 0, and a
+        member's new commitment in place of the old one. ``IndexBeyondSize``, ``ElementError``, ``OutOfMemory``: each leaves the log."""
+        self._turn.run(self._set, _word("index", index), _element(element))
+
+    def _set(self, place: int, given: bytes) -> None:
+        table = _table_for(2)
+        answer = _log_set(*self._lent_digests(), table, len(table), self._size, place, given)
+        if answer != 0:
+            raise _refusal(answer)
 
     def root(self, size: "Optional[int]" = None) -> int:
         """The root of the first ``size`` elements, of all where none is given. ``SizeError`` for more than there are, and for none."""

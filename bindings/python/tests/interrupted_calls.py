@@ -129,6 +129,7 @@ def of_poseidon():
         "len": len,
         "root": lambda made: made.root(),
         "inclusion": lambda made: made.inclusion(1),
+        "set": lambda made: made.set(1, 7),
     }
     see = lambda made: (len(made), made.root())  # noqa: E731
     return [

@@ -1,6 +1,7 @@
 """circomlib's hash against the vectors of tools/poseidon-model, and what is refused."""
 import json
 import os
+import random
 import threading
 import unittest
 
@@ -12,6 +13,23 @@ VECTORS, TREES = os.path.join(FOLDER, "poseidon.json"), os.path.join(FOLDER, "le
 
 def little(text):
     return int.from_bytes(bytes.fromhex(text), "little")
+
+
+def lean_imt(elements):
+    """The levels of a LeanIMT, by its definition: a node is the hash of its two children, or its only child."""
+    levels = [list(elements)]
+    while len(levels[-1]) > 1:
+        pairs = [levels[-1][at : at + 2] for at in range(0, len(levels[-1]), 2)]
+        levels.append([poseidon.hash(pair) if len(pair) == 2 else pair[0] for pair in pairs])
+    return levels
+
+
+def siblings(levels, index):
+    found = []
+    for row in levels[:-1]:
+        found += [row[index ^ 1].to_bytes(32, "little")] if index ^ 1 < len(row) else []
+        index //= 2
+    return b"".join(found)
 
 
 class Number(int):
@@ -177,6 +195,107 @@ class Logs(unittest.TestCase):
         with self.assertRaises(TypeError):
             log.__reduce__()
         self.assertEqual(repr(log), "<paxidore.poseidon.Log of 3 elements>")
+
+
+class Changes(unittest.TestCase):
+    def assert_is(self, log, elements, size, index):
+        levels = lean_imt(elements[:size])
+        self.assertEqual(log.root(size), levels[-1][0])
+        path = log.inclusion(index, size=size)
+        self.assertEqual(path, siblings(levels, index))
+        self.assertTrue(poseidon.verify(levels[-1][0], size, index, elements[index], path))
+
+    def test_each_index_of_each_size(self):
+        for size in range(1, 20):
+            elements, log = list(range(1, size + 1)), poseidon.Log()
+            log.append(elements)
+            for index in range(size):
+                elements[index] = 0 if index % 3 else 1000 + index
+                self.assertIsNone(log.set(index, elements[index]))
+                self.assert_is(log, elements, size, index)
+                other = poseidon.Log()
+                other.append(elements)
+                self.assertEqual(log._digests, other._digests)
+
+    def test_appends_and_changes_in_turn(self):
+        drawn = random.Random(20)
+        for _ in range(6):
+            elements, log = [], poseidon.Log()
+            for _ in range(60):
+                if not elements or drawn.random() < 0.3:
+                    more = [drawn.randrange(poseidon.MODULUS) for _ in range(drawn.choice((0, 1, 1, 2, 3, 9)))]
+                    elements += more
+                    log.append(more)
+                else:
+                    index = drawn.randrange(len(elements))
+                    elements[index] = drawn.choice((0, poseidon.MODULUS - 1, drawn.randrange(poseidon.MODULUS)))
+                    log.set(index, elements[index])
+                if elements:
+                    size = drawn.randrange(1, len(elements) + 1)
+                    self.assert_is(log, elements, size, drawn.randrange(size))
+                    self.assertEqual(log.root(), poseidon.root(elements))
+
+    def test_vectors(self):
+        with open(TREES, encoding="ascii") as file:
+            given = json.load(file)["lean_imts"]
+        elements, log = list(map(little, given["elements"])), poseidon.Log()
+        log.append([0] * 64)
+        for index, element in random.Random(3).sample(list(enumerate(elements)), 64):
+            log.set(index, element)
+        for tree in given["trees"]:
+            self.assertEqual(log.root(tree["size"]), little(tree["root"]))
+            paths = [log.inclusion(index, size=tree["size"]).hex() for index in range(len(tree["paths"]))]
+            self.assertEqual(paths, tree["paths"])
+
+    def test_refusals(self):
+        log = poseidon.Log()
+        for index in (0, 1, 2**64 - 1):
+            self.assertRaises(IndexBeyondSize, log.set, index, 1)
+        log.append([1, 2, 3, 4, 5])
+        before = bytes(log._digests)
+        for index in (5, 6, 2**63, 2**64 - 1):
+            self.assertRaises(IndexBeyondSize, log.set, index, 1)
+        for index in (-1, 2**64, 2**1000):
+            self.assertRaises(OverflowError, log.set, index, 1)
+        for index in ("0", 0.0, None, b"0"):
+            self.assertRaises(TypeError, log.set, index, 1)
+        for element in (poseidon.MODULUS, -1, 2**256, 2**10000, Number(poseidon.MODULUS)):
+            for index in (0, 4, 5):
+                self.assertRaises(poseidon.ElementError, log.set, index, element)
+        for element in ("1", 1.0, None, b"1", bytes(32), [1]):
+            self.assertRaises(TypeError, log.set, 0, element)
+        self.assertEqual((log._digests, len(log)), (before, 5))
+        # a digest that is hashed is no element: nothing is written
+        log._digests[32 * 5 : 32 * 6] = poseidon.MODULUS.to_bytes(32, "little")
+        before = bytes(log._digests)
+        self.assertRaises(InvalidProof, log.set, 0, 9)
+        self.assertEqual(log._digests, before)
+        log.set(2, Number(9))
+        log.set(4, 0)
+
+    def test_what_an_interrupted_append_left(self):
+        log = poseidon.Log()
+        log.append(range(1, 12))
+        log._digests += bytes([7]) * 96
+        log.set(10, 0)
+        self.assertEqual(log._digests[-96:], bytes([7]) * 96)
+        log.append(range(12, 21))
+        self.assertEqual(log.root(), poseidon.root([*range(1, 11), 0, *range(12, 21)]))
+
+    def test_threads(self):
+        log = poseidon.Log()
+        log.append([0] * 40)
+
+        def run(first):
+            for index in range(first, 40, 4):
+                log.set(index, index + 1)
+
+        threads = [threading.Thread(target=run, args=(first,)) for first in range(4)]
+        for thread in threads:
+            thread.start()
+        for thread in threads:
+            thread.join()
+        self.assertEqual(log.root(), poseidon.root(range(1, 41)))
 
 
 if __name__ == "__main__":

@@ -233,6 +233,25 @@ impl<'a, const N: usize> Log<'a, N> {
         Ok(size)
     }
 
+    /// Changes an element, and hashes the complete subtrees over it: at most one pair a level. Roots and paths of earlier sizes are then
+    /// those of the changed elements too. Semaphore sets a member that leaves to 0, and a member's new commitment in place of the old one.
+    ///
+    /// Refusals: `Count`, `Index`, `Invalid` for an element that is not below the modulus, `Memory`. Each leaves the log as it was.
+    pub fn set(&mut self, index: usize, element: &Digest) -> Result<(), Refused> {
+        // SAFETY: as in `Table::root`; nothing else borrows the digests that are written.
+        done(unsafe {
+            sys::paxidore_poseidon_log_set(
+                self.kept.as_mut_ptr().cast(),
+                self.kept.len(),
+                self.table.bytes.as_ptr(),
+                self.table.len,
+                self.size,
+                index,
+                element.as_ptr(),
+            )
+        })
+    }
+
     /// Returns the root of the first `size` elements. Refusals: `Count`, `Size` for more than there are and for none, `Memory`.
     pub fn root(&self, size: usize) -> Result<Digest, Refused> {
         let mut root = [0; 32];

@@ -354,6 +354,15 @@ extern "C" {
         size: usize,
         index: usize,
     ) -> i32;
+    pub fn paxidore_poseidon_log_set(
+        kept: *mut u8,
+        kept_len: usize,
+        table: *const u8,
+        table_len: usize,
+        size: usize,
+        index: usize,
+        element: *const u8,
+    ) -> i32;
     pub fn paxidore_strerror(answer: i32) -> *const c_char;
     pub fn paxidore_version() -> *const c_char;
     pub fn paxidore_cpu() -> *const c_char;

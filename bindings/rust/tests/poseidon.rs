@@ -144,6 +144,51 @@ fn trees_are_those_of_a_model() -> Result<(), Refused> {
 }
 
 #[test]
+fn changed_trees_are_those_of_a_model() -> Result<(), Refused> {
+    let table = Table::<{ table_bytes(2) }>::new(2)?;
+    for size in 1..20 {
+        let mut given = elements(size as u8);
+        let mut log = Log::new(&table);
+        log.append(&given)?;
+        for index in 0..size {
+            given[index] = [if index % 3 == 0 { 0 } else { 32 + index as u8 }; 32];
+            given[index][31] = 0;
+            log.set(index, &given[index])?;
+            for old in [size, 1 + size / 2] {
+                let (root, path) = model(&table, given[..old].to_vec(), index % old);
+                assert_eq!(log.root(old)?, root);
+                assert_eq!(log.inclusion(old, index % old)?, path);
+            }
+        }
+        let more = elements(3);
+        log.append(&more)?;
+        given.extend(more);
+        assert_eq!(log.root(size + 3)?, table.root(&given)?);
+    }
+    Ok(())
+}
+
+#[test]
+fn changes_refuse() -> Result<(), Refused> {
+    let (two, three) = (Table::<{ table_bytes(2) }>::new(2)?, Room::new(3)?);
+    let given = elements(5);
+    let mut log = Log::new(&two);
+    assert_eq!(log.set(0, &given[0]), Err(Refused::Index));
+    log.append(&given)?;
+    let root = log.root(5)?;
+    for index in [5, 6, 1 << 63, usize::MAX] {
+        assert_eq!(log.set(index, &given[0]), Err(Refused::Index));
+        assert_eq!(log.set(index, &[255; 32]), Err(Refused::Index));
+    }
+    for index in 0..5 {
+        assert_eq!(log.set(index, &[255; 32]), Err(Refused::Invalid));
+    }
+    assert_eq!(log.root(5), Ok(root));
+    assert_eq!(Log::new(&three).set(0, &given[0]), Err(Refused::Count));
+    Ok(())
+}
+
+#[test]
 fn trees_refuse() -> Result<(), Refused> {
     let (two, three) = (Table::<{ table_bytes(2) }>::new(2)?, Room::new(3)?);
     let (given, mut room) = (elements(3), [[0; 32]; 1]);

@@ -1,3 +1,4 @@
+pub mod Changing
 pub mod Closed
 pub mod Lists
 pub mod Outcomes

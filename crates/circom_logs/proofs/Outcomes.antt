@@ -2,6 +2,7 @@
 use Rattle.std.proofs.Common.{◌≡◌, ◌⊎◌, inl, inr, ℕ, ◌+◌, ◌/◌, ◌^◌, ◌<◌, ◌==◌, List, [], ◌∷◌, take, drop, get_or, slice_range, Bool, true, false, if◌then◌else◌, All, Ok, Err, refl, sym, ap, ◌∙◌, arith, eq-eqb}
 use Rattle.std.proofs.lemmas.Bool.{cases_lt, eqb-true, lt-ltb, le-ltb}
 use Rattle.std.proofs.lemmas.List.Elements.{All-cons}
+use Rattle.ark_base.specs.declared.error.Error.{Error}
 use Rattle.ark_base.specs.declared.error.Error.TheVariants.{IncorrectInputLength, SerializationError}
 use Rattle.ark_base.specs.declared.error.SerializationError.TheVariants.{InvalidData}
 use Rattle.ark_base.specs.Digits.{number_of_bytes}
@@ -56,6 +57,28 @@ pub bytes_are : (n : ℕ) → n < modulus → is_element (element_bytes LittleEn
 bytes_are n below =
     let fits : n < 256 ^ 32 = omega (arith, fits_bytes) in
     rw (number_of_bytes-bytes_of_number 32 n fits) (lt-ltb n modulus below)
+
+no_digest : (error : Error) (digest : List ℕ) → Err error ≡ Ok digest → ⊥
+no_digest error digest is = cc
+
+element_test : (bytes : List ℕ) → (is_element bytes ≡ true)
+    ⊎ (element_in modulus LittleEndian bytes ≡ Err (SerializationError InvalidData))
+element_test bytes = elim (cases_lt (number_of_bytes bytes) modulus) [
+  | inl below ↦ inl (lt-ltb (number_of_bytes bytes) modulus below)
+  | inr past ↦ inr (rw (le-ltb (number_of_bytes bytes) modulus past) refl)
+]
+
+-- What has a hash are elements.
+pub hashed_are : (c : Parameters) (left right digest : List ℕ) → node_outcome c left right ≡ Ok digest
+    → (is_element left ≡ true) × (is_element right ≡ true)
+hashed_are c left right digest is = elim (element_test left) [
+  | inr refused ↦ absurd (no_digest (SerializationError InvalidData) digest (rw (refused) at is))
+  | inl first ↦ elim (element_test right) [
+    | inl second ↦ (first, second)
+    | inr refused ↦
+        absurd (no_digest (SerializationError InvalidData) digest (rw ((element_of left first).is, refused) at is))
+  ]
+]
 
 -- ---- the hash of two
 

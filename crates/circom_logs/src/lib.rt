@@ -5,6 +5,7 @@
 //! caller's memory, as `merkle_log::kept` has them.
 #![tactic(auto)]
 
+mod change;
 mod elements;
 mod list;
 mod log;
@@ -12,6 +13,7 @@ mod nodes;
 mod refusal;
 mod tree;
 
+pub use change::change_element;
 pub use elements::are_elements;
 pub use list::{path_of_elements, root_of_elements};
 pub use log::{appended_digests, inclusion_path, kept_log_root};

@@ -82,3 +82,12 @@ appended_by size kept room elements given = if_kept size kept (only_if (takes si
 abbrev pub elements_appended : ℕ → ℕ → List Digest → ℕ → List Digest → Result (List Digest) Refused
     → Result (List Digest) Refused
 elements_appended inputs size kept room elements given = if_two inputs (appended_by size kept room elements given)
+
+-- what is given for an element that is put to an index of a kept log
+abbrev pub changed_element : ℕ → List Digest → ℕ → Digest → Result Digest Refused → Result Digest Refused
+changed_element size kept index element given =
+    if_kept size kept (only_if (nat_lt index size) Index (only_if (is_element element) Invalid given))
+
+-- the same by a table of so many inputs
+abbrev pub element_changed : ℕ → ℕ → List Digest → ℕ → Digest → Result Digest Refused → Result Digest Refused
+element_changed inputs size kept index element given = if_two inputs (changed_element size kept index element given)

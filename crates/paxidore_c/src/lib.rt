@@ -17,6 +17,7 @@ pub mod map;
 pub mod notes;
 pub mod poseidon;
 pub mod poseidon_log;
+pub mod poseidon_log_changes;
 pub mod poseidon_log_kept;
 pub mod sha256;
 pub mod signatures;
