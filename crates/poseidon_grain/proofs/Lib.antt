@@ -5,3 +5,4 @@ pub mod Lists
 pub mod Made
 pub mod Shapes
 pub mod Twice
+pub mod Halves

@@ -1,3 +1,4 @@
 pub mod Grain
 pub mod Constants
 pub mod Defaults
+pub mod Poseidon2

@@ -1,10 +1,11 @@
-//! The constants and the matrix of Poseidon for any field and width, of the Grain LFSR, as the authors of Poseidon define them.
+//! The constants and the matrix of Poseidon, and the constants of Poseidon2, for any field and width, of the Grain LFSR, as the authors of Poseidon define them.
 #![tactic(auto)]
 
 mod defaults;
 mod draws;
 mod matrix;
 mod parameters;
+mod poseidon_two;
 mod ready;
 mod register;
 
@@ -12,4 +13,5 @@ pub use defaults::{
     PoseidonDefaultConfig, PoseidonDefaultConfigEntry, get_default_poseidon_parameters,
 };
 pub use parameters::{find_poseidon_ark_and_mds, poseidon_parameters};
+pub use poseidon_two::{Poseidon2Constants, poseidon2_constants};
 pub use ready::{baby_bear_parameters, circom_parameters, circom_rounds, goldilocks_parameters};

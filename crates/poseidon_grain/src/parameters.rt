@@ -11,8 +11,8 @@ use ark_sponge::poseidon::PoseidonConfig;
 use ark_wide_fields::InvertibleField;
 use std::alloc::Global;
 
-// Whether the generator takes these counts.
-fn counts_fit(width: usize, full: usize, partial: usize, passed_over: usize) -> bool
+/// Returns whether the generator takes these counts.
+pub fn counts_fit(width: usize, full: usize, partial: usize, passed_over: usize) -> bool
     ensures { result ≡ counts_fit width full partial passed_over }
 {
     1 < width && width < 4096 && 0 < full && full < 1024 && partial < 1024 && passed_over < 65536

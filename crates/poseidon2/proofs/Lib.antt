@@ -1,0 +1,10 @@
+pub mod Fours
+pub mod BlockSums
+pub mod Ones
+pub mod Widths
+pub mod RoundRuns
+pub mod Shapes
+pub mod ConfigBytes
+pub mod Truncated
+pub mod Drawn
+pub mod Short
