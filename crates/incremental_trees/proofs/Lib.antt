@@ -1,0 +1,10 @@
+pub mod Besides
+pub mod Carrying
+pub mod Completing
+pub mod Edges
+pub mod Halves
+pub mod LevelNodes
+pub mod Padded
+pub mod Rising
+pub mod RisingSteps
+pub mod Ways

@@ -1,0 +1,4 @@
+pub mod Incremental
+pub mod KeptPaths
+pub mod Laws
+pub mod Nodes
