@@ -3,7 +3,7 @@ use Rattle.std.proofs.Common.{false, IsTrue, ◌≡◌, ℕ, zero, suc, ◌+◌,
 use Rattle.std.proofs.lemmas.Nat.{pow_pos, pow-add, shl-shr, shr-shr, shr_split, shr_high, pow_below, le-div, mod_below}
 use Rattle.std.proofs.lemmas.Bool.{cases_lt}
 use Rattle.std.proofs.Math.Nat.{pow-suc}
-use Rattle.incremental_trees.specs.Incremental.{CarriesTo, last_left}
+use Rattle.incremental_trees.specs.Incremental.{CarriesTo}
 
 -- half of the count of a level is that of the level above
 pub half-up : (size level : ℕ) → size / 2 ^ suc level ≡ size / 2 ^ level / 2
@@ -75,9 +75,6 @@ complete_inside level size count le =
 
 pub place_outside : (level size : ℕ) → size < (size / 2 ^ level + 1) * 2 ^ level
 place_outside level size = omega (arith, shr_split size level, mod_below size (2 ^ level) (pow_pos level))
-
-pub last-odd : (level size : ℕ) → size / 2 ^ level % 2 ≡ 1 → last_left level size ≡ 2 * (size / 2 ^ level / 2)
-last-odd level size odd = omega arith
 
 -- a level up to which all leaves stand below nodes that are complete
 pub halved-whole : (size count level : ℕ) → size ≡ count * 2 ^ level → count % 2 ≡ 0

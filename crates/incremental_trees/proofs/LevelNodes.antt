@@ -73,13 +73,6 @@ module _ (hash : LevelHash) (empty : Digest) where
       let beside : node_at hash empty [] level 1 ≡ Ok node = node-empty [] level 1 (omega arith) ∙ is in
       node-above [] level 0 node node is beside ∙ hashed
 
-  pub empties-first : (digests : List Digest) → get_or digests 0 [] ≡ empty → AreEmpty hash empty 0 digests
-  empties-first digests first = record {
-    at = λ level le.
-        let none : level ≡ 0 = omega arith in
-        ap (λ n. node_at hash empty [] n 0) none ∙ ap Ok (sym first) ∙ ap (λ n. Ok (get_or digests n [])) (sym none);
-  }
-
   pub empties-more : (level : ℕ) (digests : List Digest) (next : Digest) → length digests ≡ level + 1
       → AreEmpty hash empty level digests → hash level (get_or digests level []) (get_or digests level []) ≡ Ok next
       → AreEmpty hash empty (level + 1) (digests ++ (next ∷ []))

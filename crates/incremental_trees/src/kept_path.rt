@@ -107,7 +107,8 @@ impl<D: DigestItem> KeptPath<D> {
             IfOk result (λ nodes. (leaves : List Digest) → HoldsLeaves hash leaves tree.now
             → IsKeptPath hash tree.now.empty leaves tree.now.depth self.now
             → rising_root hash 0 self.now.index (digests_of D.numbers nodes)
-            (get_or leaves self.now.index []) ≡ depth_root hash tree.now.depth tree.now.empty leaves) }
+            (get_or leaves self.now.index [])
+            ≡ depth_root hash tree.now.depth tree.now.empty leaves) }
 
         // Where the hash is a tree's, they are a path of the tree over these leaves and as many empty ones as are left.
         ensures path { (h : HashPair) → T.nodes tree.now.hasher ≡ level_hash h

@@ -4,7 +4,7 @@ ghost use Rattle.std.specs.Prelude.{◌≡◌, ◌+◌, ◌-◌, ◌≤◌, ℕ,
 ghost use Rattle.ark_base.specs.Outcome.{AnswersBy};
 ghost use Rattle.ark_base.specs.declared.error.Refusal.TheVariants.{SetupNotAvailable};
 ghost use Rattle.poseidon2.specs.Permutation.{poseidon2_permutation};
-ghost use Rattle.poseidon2.specs.Compression.{truncated_permutation, setup_refused};
+ghost use Rattle.poseidon2.specs.Compression.{poseidon2_hash, setup_refused};
 
 use crate::blocks::BlockMatrix;
 use crate::config::Poseidon2Config;
@@ -59,8 +59,9 @@ fn hash_of_two<F: Field, S: SBox<F>, B: BlockMatrix<F>>(
     left: F,
     right: F,
 ) -> Result<F, Error>
-    ensures { AnswersBy (λ x. F.value x ∷ []) (Ok (truncated_permutation F.MODULUS S.image B.matrix
-        parameters.now (F.value left ∷ []) (F.value right ∷ []))) result }
+    ensures { AnswersBy (λ x. F.value x ∷ [])
+        (poseidon2_hash F.MODULUS S.image B.matrix parameters.now
+        (F.value left ∷ []) (F.value right ∷ [])) result }
 {
     let mut state = state_of(alloc, left, right, parameters.width())?;
     Ok(first_of_permuted::<F, S, B>(parameters, &mut state))
@@ -77,9 +78,9 @@ impl<F: Field + DigestItem, S: SBox<F>, B: BlockMatrix<F>> TwoToOneCRHScheme
 
     type Parameters = Poseidon2Config<F>;
 
-    ghost evaluated = { λ c left right. Ok (truncated_permutation F.MODULUS S.image B.matrix c left right) };
+    ghost evaluated = { poseidon2_hash F.MODULUS S.image B.matrix };
 
-    ghost compressed = { λ c left right. Ok (truncated_permutation F.MODULUS S.image B.matrix c left right) };
+    ghost compressed = { poseidon2_hash F.MODULUS S.image B.matrix };
 
     ghost setup_outcome = { λ _. setup_refused };
 
@@ -99,8 +100,9 @@ impl<F: Field + DigestItem, S: SBox<F>, B: BlockMatrix<F>> TwoToOneCRHScheme
         left: &F,
         right: &F,
     ) -> Result<F, Error>
-        ensures { AnswersBy (λ x. F.value x ∷ []) (Ok (truncated_permutation F.MODULUS S.image B.matrix
-            parameters.now (F.value left.now ∷ []) (F.value right.now ∷ []))) result }
+        ensures { AnswersBy (λ x. F.value x ∷ [])
+            (poseidon2_hash F.MODULUS S.image B.matrix parameters.now
+            (F.value left.now ∷ []) (F.value right.now ∷ [])) result }
     {
         hash_of_two::<F, S, B>(alloc, parameters, *left, *right)
     }
@@ -113,8 +115,9 @@ impl<F: Field + DigestItem, S: SBox<F>, B: BlockMatrix<F>> TwoToOneCRHScheme
         left: &F,
         right: &F,
     ) -> Result<F, Error>
-        ensures { AnswersBy (λ x. F.value x ∷ []) (Ok (truncated_permutation F.MODULUS S.image B.matrix
-            parameters.now (F.value left.now ∷ []) (F.value right.now ∷ []))) result }
+        ensures { AnswersBy (λ x. F.value x ∷ [])
+            (poseidon2_hash F.MODULUS S.image B.matrix parameters.now
+            (F.value left.now ∷ []) (F.value right.now ∷ [])) result }
     {
         hash_of_two::<F, S, B>(alloc, parameters, *left, *right)
     }
@@ -127,9 +130,7 @@ impl<F: Field + DigestItem, S: SBox<F>, B: BlockMatrix<F>> TwoToOneCRHScheme
 
     ghost made_alike = { λ _ p q made also. absurd made };
 
-    ghost evaluated_same = { λ p q same.
-        ap (λ c left right. Ok (truncated_permutation F.MODULUS S.image B.matrix c left right)) same };
+    ghost evaluated_same = { λ p q same. ap (poseidon2_hash F.MODULUS S.image B.matrix) same };
 
-    ghost compressed_same = { λ p q same.
-        ap (λ c left right. Ok (truncated_permutation F.MODULUS S.image B.matrix c left right)) same };
+    ghost compressed_same = { λ p q same. ap (poseidon2_hash F.MODULUS S.image B.matrix) same };
 }
