@@ -24,7 +24,7 @@ pub use moduli::{
     Bls12_381Fr, Bls12_381FrModulus, Bn254Fr, Bn254FrModulus, PallasFp, PallasFpModulus, VestaFp,
     VestaFpModulus,
 };
-pub use modulus::{WideModulus, byte_len};
+pub use modulus::{PrimeModulus, WideModulus, byte_len};
 pub use powers::{is_zero, power, squared};
 pub use prime::{InvertibleField, inverse, quotient, square_root};
 pub use words::{ZERO, is_below, is_nothing, is_odd, low_bits, plus, read_below, words_of};
