@@ -4,6 +4,7 @@ pub mod SmallOrder
 pub mod Spelling
 pub mod Points
 pub mod Signatures
+pub mod SigningKeys
 pub mod Combined
 pub mod BaseTable
 pub mod Multiples

@@ -12,6 +12,7 @@ mod points;
 mod roots;
 mod signatures;
 mod signing;
+mod signing_key;
 mod small_order;
 
 pub use base::multiple_of_base;
@@ -24,4 +25,5 @@ pub use points::{abscissa, point_bytes, point_of};
 pub use roots::root_of_ratio;
 pub use signatures::{challenge_scalar, commitment, verify};
 pub use signing::{multiple_bytes, public_key, sign};
+pub use signing_key::SigningKey;
 pub use small_order::has_small_order;
