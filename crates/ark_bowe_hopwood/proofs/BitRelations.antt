@@ -1,7 +1,6 @@
 -- Two lists of bits, or two couples of nodes, with one hash give a relation among the elements of the segments.
-use Rattle.std.proofs.Common.{◌≡◌, ℕ, ◌+◌, ◌*◌, ◌^◌, ◌<◌, ◌≤◌, Bool, true, false, cond, List, ◌++◌, length, take, drop, Ok, Err, sym, ap, ap₂, ◌∙◌, arith, length-append}
+use Rattle.std.proofs.Common.{◌≡◌, ℕ, ◌+◌, ◌*◌, ◌^◌, ◌<◌, ◌≤◌, Bool, true, false, cond, List, ◌++◌, length, Ok, Err, sym, ap, ap₂, ◌∙◌, arith, length-append}
 use Rattle.std.specs.Prelude.{nat_lt}
-use Rattle.std.proofs.Math.Seq.{take-append_seam, drop-append_seam}
 use Rattle.ark_base.specs.Outcome.{Outcome}
 use Rattle.ark_base.specs.Laws.Steps.{done_injective}
 use Rattle.ark_base.specs.declared.error.Error.TheVariants.{IncorrectInputLength, GenericError}
@@ -11,7 +10,7 @@ use Rattle.ark_groups.specs.Group.{Group, IsCommutativeGroup}
 use Rattle.ark_pedersen.specs.Pedersen.{concatenation, has_shape}
 use Rattle.ark_pedersen.specs.declared.window.Window.{Ghosts as Windows}
 use Rattle.ark_pedersen.proofs.BitSums.{length-bits_of_number}
-use Rattle.ark_pedersen.proofs.Relations.{number_of_bits-bits_of_number}
+use Rattle.ark_pedersen.proofs.Relations.{number_of_bits-bits_of_number, fronts, backs}
 use Rattle.ark_bowe_hopwood.specs.BitHashes.{bits_hash}
 use Rattle.ark_bowe_hopwood.specs.BoweHopwood.{AreSegmentsOf, chunks_of, digits_sum, segments_sum}
 use Rattle.ark_bowe_hopwood.specs.Binding.{BitHashesGiveRelations, NodesGiveRelations, NodeRelationsAreSome, Children, bits_in}
@@ -71,16 +70,6 @@ module _ {G W : Type 0} {g : Group G} (laws : IsCommutativeGroup g) (coordinate 
 number_in : (k m n : ℕ) → m < 2 ^ k → n < 2 ^ k → bits_of_number k m ≡ bits_of_number k n → m ≡ n
 number_in k m n first second same =
     sym (number_of_bits-bits_of_number k m first) ∙ ap number_of_bits same ∙ number_of_bits-bits_of_number k n second
-
-module _ {A : Type 0} where
-  -- lists with fronts of one length are the same in front and behind
-  fronts : (a b x y : List A) → length a ≡ length b → a ++ x ≡ b ++ y → a ≡ b
-  fronts a b x y long same =
-      sym (take-append_seam a x) ∙ ap₂ (λ (n : ℕ) (t : List A). take n t) long same ∙ take-append_seam b y
-
-  backs : (a b x y : List A) → length a ≡ length b → a ++ x ≡ b ++ y → x ≡ y
-  backs a b x y long same =
-      sym (drop-append_seam a x) ∙ ap₂ (λ (n : ℕ) (t : List A). drop n t) long same ∙ drop-append_seam b y
 
 pub nodes_are_some : {W : Type 0} (order : ℕ) (windows : Windows W) → 0 < order → NodeRelationsAreSome order windows
 unfolding node_bits

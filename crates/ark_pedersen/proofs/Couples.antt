@@ -1,6 +1,5 @@
 -- Two couples of inputs with one hash give a relation among the elements.
-use Rattle.std.proofs.Common.{◌≡◌, ℕ, ◌*◌, ◌/◌, ◌^◌, ◌<◌, ◌≤◌, List, ◌++◌, length, take, drop, refl, sym, ◌∙◌, ap, ap₂, arith, append_assoc}
-use Rattle.std.proofs.Math.Seq.{take-append_seam, drop-append_seam}
+use Rattle.std.proofs.Common.{◌≡◌, ℕ, ◌*◌, ◌/◌, ◌^◌, ◌<◌, ◌≤◌, List, ◌++◌, length, refl, sym, ◌∙◌, arith, append_assoc}
 use Rattle.std.proofs.lemmas.Bool.{leb-true}
 use Rattle.ark_base.specs.Reading.{IsBytes}
 use Rattle.ark_groups.specs.Group.{Group, IsCommutativeGroup, times}
@@ -9,7 +8,7 @@ use Rattle.ark_pedersen.specs.Pedersen.{window_bits, windows_hash, of_halves}
 use Rattle.ark_pedersen.specs.Binding.{CouplesGiveRelations, CoupleRelationsAreSome, IsCouple, couple_bytes, couple_coefficients}
 use Rattle.ark_pedersen.proofs.ByteLists.{IsBytes-append, IsBytes-zeros}
 use Rattle.ark_pedersen.proofs.Halves.{length-full_halves, of_halves-full}
-use Rattle.ark_pedersen.proofs.Relations.{is_relation, same_inputs}
+use Rattle.ark_pedersen.proofs.Relations.{fronts, backs, is_relation, same_inputs}
 
 module _ {W : Type 0} (windows : Windows W) (couple : List ℕ × List ℕ) (is : IsCouple windows couple) where
   pub half_within : length couple.0 ≤ window_bits windows / 2 / 8
@@ -47,25 +46,12 @@ are_some laws r some order windows fits left right fits0 fits1 fits2 fits3 is_le
     (are_bytes left fits0 fits1) (are_bytes right fits2 fits3) none
     (length-full_halves half left.0 left.1 is_left.as_long (half_within windows left is_left)
     ∙ sym (length-full_halves half right.0 right.1 is_right.as_long (half_within windows right is_right))) in
-    let first : left.0 ≡ right.0 = sym (front left) ∙ ap₂ (λ (n : ℕ) (t : List ℕ). take n t) long one ∙ front right in
-    let longs : length left.1 ≡ length right.1 = sym is_left.as_long ∙ long ∙ is_right.as_long in (
-      first,
-      sym (back left) ∙ ap₂ (λ (n : ℕ) (t : List ℕ). take n t) longs
-          (ap₂ (λ (n : ℕ) (t : List ℕ). drop n t) long one) ∙ back right,
+    let whole = sym (append_assoc left.0 left.1 _) ∙ one ∙ append_assoc right.0 right.1 _ in (
+      fronts left.0 right.0 _ _ long whole,
+      fronts left.1 right.1 _ _ (sym is_left.as_long ∙ long ∙ is_right.as_long)
+          (backs left.0 right.0 _ _ long whole),
     )
   where
     are_bytes : (couple : List ℕ × List ℕ) → IsBytes couple.0 → IsBytes couple.1 → IsBytes (couple_bytes windows couple)
     are_bytes couple first second =
         IsBytes-append (couple.0 ++ couple.1) _ (IsBytes-append couple.0 couple.1 first second) (IsBytes-zeros _)
-
-    front : (couple : List ℕ × List ℕ) → take (length couple.0) (couple_bytes windows couple) ≡ couple.0
-    front couple =
-        ap (take (length couple.0)) (append_assoc couple.0 couple.1 _)
-        ∙ take-append_seam couple.0 (couple.1 ++ _)
-
-    back : (couple : List ℕ × List ℕ)
-        → take (length couple.1) (drop (length couple.0) (couple_bytes windows couple)) ≡ couple.1
-    back couple =
-        ap (λ (t : List ℕ). take (length couple.1) (drop (length couple.0) t)) (append_assoc couple.0 couple.1 _)
-        ∙ ap (take (length couple.1)) (drop-append_seam couple.0 (couple.1 ++ _))
-        ∙ take-append_seam couple.1 _

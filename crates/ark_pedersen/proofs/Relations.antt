@@ -4,9 +4,10 @@ use Rattle.std.proofs.Common.{◌++◌, length, take, drop, refl, sym, ◌∙◌
 use Rattle.std.proofs.Common.{pow-suc, lit<, eqb, All, ◌⊎◌, inl, inr, subst, cond, append_assoc, Ok, Err}
 use Rattle.std.specs.Prelude.{if◌then◌else◌, nat_lt, nat_le, IfOk}
 use Rattle.std.proofs.Math.Nat.{add-mul-mod_self_right}
+use Rattle.std.proofs.Math.Seq.{take-append_seam, drop-append_seam}
 use Rattle.std.proofs.lemmas.List.{take-append-drop, length-drop, drop-drop, append-nil}
 use Rattle.std.proofs.lemmas.Bool.{cases_lt, lt-ltb, le-ltb, le-leb, lt-leb, leb-true, ltb-false}
-use Rattle.ark_groups.specs.Field.{HasBits}
+use Rattle.ark_groups.specs.Field.{HasBits, IsFieldModulus}
 use Rattle.ark_base.specs.Reading.{IsBytes}
 use Rattle.ark_base.specs.Digits.{number_of_bytes, bytes_of_number}
 use Rattle.ark_base.specs.Laws.Digits.{bytes_of_number-number_of_bytes}
@@ -22,6 +23,10 @@ use Rattle.ark_pedersen.specs.Pedersen.{bits_of_bytes, windows_sum, window_bits,
 use Rattle.ark_pedersen.specs.Binding.{window_numbers, differences, combination, coefficients_of, IsRelation, AreAllZero, windows_fit, relation_outcome}
 use Rattle.ark_pedersen.proofs.Halves.{length-bits_of_bytes}
 use Rattle.ark_pedersen.proofs.BitSums.{bits_of_bytes-number, number_of_bytes-below}
+
+-- the modulus of a field is above 0
+pub positive : {p bits : ℕ} → IsFieldModulus p bits → 0 < p
+positive laws = omega (arith, laws.at_least_two)
 
 -- ---- sums
 
@@ -161,6 +166,15 @@ module _ {A : Type 0} where
       shorter : length (drop size a) ≡ length a - size → length a ≤ size * suc count → length (drop size a)
           ≤ size * count
       shorter e l = let more : size * suc count ≡ size * count + size = omega arith in omega (arith, e, l, more)
+
+  -- lists whose fronts have one length are the same in front and behind
+  pub fronts : (a b x y : List A) → length a ≡ length b → a ++ x ≡ b ++ y → a ≡ b
+  fronts a b x y long same =
+      sym (take-append_seam a x) ∙ ap₂ (λ (n : ℕ) (t : List A). take n t) long same ∙ take-append_seam b y
+
+  pub backs : (a b x y : List A) → length a ≡ length b → a ++ x ≡ b ++ y → x ≡ y
+  backs a b x y long same =
+      sym (drop-append_seam a x) ∙ ap₂ (λ (n : ℕ) (t : List A). drop n t) long same ∙ drop-append_seam b y
 
 module _ (r size : ℕ) (pos : 0 < r) (fits : 2 ^ size ≤ r) where
   window_below : (bits : List Bool) → number_of_bits (take size bits) < r

@@ -29,17 +29,19 @@ group_hash find label text = first_found find label text 0 256
 
 -- ---- texts of a label
 
--- the roles of texts: for the segments of Bowe-Hopwood hashes, which are Zcash's, for the windows of Pedersen hashes,
--- for those of Pedersen commitments, and for their randomness
+-- the role of texts for the segments of Bowe-Hopwood hashes, which are Zcash's
 abbrev pub for_segments : ℕ
 for_segments = 0
 
+-- the role of texts for the windows of Pedersen hashes
 abbrev pub for_hashes : ℕ
 for_hashes = 1
 
+-- the role of texts for the windows of Pedersen commitments
 abbrev pub for_commitments : ℕ
 for_commitments = 2
 
+-- the role of texts for the randomness of Pedersen commitments
 abbrev pub for_randomness : ℕ
 for_randomness = 3
 

@@ -169,7 +169,8 @@ fn window_elements<C: FromDigest, W: Window>(
 /// Returns the parameters of a Pedersen hash of a label: those of the label's elements, with their doublings. Take these:
 /// nobody has to trust who made them.
 ///
-/// The text of a window has its place, the bits of a window and `1`. So hashes of other windows have other elements.
+/// The text of a window has its place, the bits of a window and `1`. So hashes whose windows have other counts of bits take
+/// other texts (`texts_are_apart`).
 ///
 /// Errors: `WindowTooLarge` where a number of a window can pass the order; `LengthOverflow` of 2^32 windows or more;
 /// `DrawsExhausted` where a text has no element, of which none is known; `OutOfMemory`.

@@ -5,10 +5,12 @@ ghost use Rattle.std.specs.Bool.{Decides};
 ghost use Rattle.ark_base.specs.Outcome.{Outcome, AnswersBy, IsDecided};
 
 pub mod blake2s;
+mod same;
 
 use ark_base::error::Error;
 use ark_base::serialize::{CanonicalDeserialize, CanonicalSerialize};
 pub use blake2s::{Blake2s, Blake2s256, Blake2sWithParameterBlock};
+pub use same::is_same_digest;
 use std::fmt::Debug;
 use std::hash::Hash;
 

@@ -113,12 +113,6 @@ level-above size level place count fits is paired =
 -- ---- the digests are made
 
 module _ {hash : NodeHash} {rows : ℕ → List Digest} {index : ℕ} {own : Digest} where
-  pub climbs-first : (over : List Digest) → 0 < length over → Climbs hash rows index own (set over 0 own) 0
-  climbs-first over some = record {
-    first = get_or-set_at over 0 0 own [] refl some;
-    hashed = λ k below. absurd (omega arith);
-  }
-
   pub climbs-next : {over : List Digest} {level place : ℕ} {digest : Digest} → Climbs hash rows index own over level
       → place ≡ index_up level index → level + 1 < length over
       → hashed_over hash (rows level) place (get_or over level []) ≡ Ok digest
@@ -175,13 +169,6 @@ pub record Putting (size index : ℕ) (old new over : List Digest) (level : ℕ)
   pub put : (k : ℕ) → k < level → HasOverLeaf size index k
       → get_or new (position k (index_up k index)) [] ≡ get_or over k []
   pub others : (at : ℕ) → (IsOverLeaf size index at → ⊥) → get_or new at [] ≡ get_or old at []
-
-pub putting-first : (size index : ℕ) (old over : List Digest) → Putting size index old old over 0
-putting-first size index old over = record {
-  long = refl;
-  put = λ k below has. absurd (omega arith);
-  others = λ at not. refl;
-}
 
 pub putting-seat : {size index : ℕ} {old new over : List Digest} {level : ℕ} (place count : ℕ)
     → Putting size index old new over level → size < 2 ^ 63 → stored_count size ≤ length old

@@ -1,4 +1,4 @@
-use Rattle.std.proofs.Common.{ℕ, ◌<◌, ◌≤◌, arith}
+use Rattle.ark_pedersen.proofs.Relations.{positive}
 use Rattle.ark_bowe_hopwood.proofs.BitRelations.{bits_give}
 use Rattle.ark_bowe_hopwood.proofs.Relations.{bits_are_some}
 use Rattle.ark_bowe_hopwood.proofs.binding.bit_hashes_bind.Goals as goal
@@ -9,7 +9,4 @@ returns-clause-relation g c = bits_give g.met.G.AdditiveGroup.laws g.G.TECoordin
 pub returns-clause-some : goal.returns-clause-some
 returns-clause-some g c =
     bits_are_some g.G.ScalarField.Field.MODULUS g.W.Window
-    (positive g.G.ScalarField.Field.MODULUS g.G.ScalarField.Field.modulus_laws.at_least_two)
-  where
-    positive : (r : ℕ) → 2 ≤ r → 0 < r
-    positive r l = omega (arith, l)
+    (positive g.G.ScalarField.Field.modulus_laws)

@@ -1,4 +1,4 @@
-use Rattle.std.proofs.Common.{ℕ, ◌<◌, ◌≤◌, arith}
+use Rattle.ark_pedersen.proofs.Relations.{positive}
 use Rattle.ark_bowe_hopwood.proofs.Relations.{give_relations, are_some}
 use Rattle.ark_bowe_hopwood.proofs.binding.hashes_bind.Goals as goal
 
@@ -9,7 +9,4 @@ returns-clause-relation g c = give_relations g.met.G.AdditiveGroup.laws g.G.TECo
 pub returns-clause-some : goal.returns-clause-some
 returns-clause-some g c =
     are_some g.G.ScalarField.Field.MODULUS g.W.Window
-    (positive g.G.ScalarField.Field.MODULUS g.G.ScalarField.Field.modulus_laws.at_least_two)
-  where
-    positive : (r : ℕ) → 2 ≤ r → 0 < r
-    positive r l = omega (arith, l)
+    (positive g.G.ScalarField.Field.modulus_laws)

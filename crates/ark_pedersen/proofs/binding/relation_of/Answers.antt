@@ -1,9 +1,6 @@
-use Rattle.std.proofs.Common.{ℕ, ◌<◌, ◌≤◌, map, arith}
-use Rattle.ark_pedersen.proofs.Relations.{answered, answers_give, is_relation, same_inputs}
+use Rattle.std.proofs.Common.{map, arith}
+use Rattle.ark_pedersen.proofs.Relations.{positive, answered, answers_give, is_relation, same_inputs}
 use Rattle.ark_pedersen.proofs.binding.relation_of.Goals as goal
-
-positive : (r : ℕ) → 2 ≤ r → 0 < r
-positive r l = omega (arith, l)
 
 pub returns-clause-relation : goal.returns-clause-relation
 returns-clause-relation g c =
@@ -13,7 +10,7 @@ returns-clause-relation g c =
     answers_give _ _ _ c.coefficients_of.result c.coefficients_of.ensures (λ found exact.
     let coefficients = map g.C.ScalarField.Valued.value found.items in
     let a = answered r g.W.Window left right coefficients exact in
-    is_relation g.met.C.AdditiveGroup.laws r (positive r g.C.ScalarField.Field.modulus_laws.at_least_two)
+    is_relation g.met.C.AdditiveGroup.laws r (positive g.C.ScalarField.Field.modulus_laws)
     g.met.C.AdditiveGroup.order g.W.Window left right coefficients a.left_in a.right_in a.are)
 
 pub returns-clause-some : goal.returns-clause-some
@@ -25,6 +22,6 @@ returns-clause-some g c =
     let coefficients = map g.C.ScalarField.Valued.value found.items in
     let a = answered r g.W.Window left right coefficients exact in
     same_inputs {G = g.row.C.Denot} g.met.C.AdditiveGroup.laws r
-    (positive r g.C.ScalarField.Field.modulus_laws.at_least_two) g.met.C.AdditiveGroup.order g.W.Window left right
+    (positive g.C.ScalarField.Field.modulus_laws) g.met.C.AdditiveGroup.order g.W.Window left right
     coefficients a.left_in a.right_in a.are a.fits (λ i. omega (arith, c.type_inv.left i))
     (λ i. omega (arith, c.type_inv.right i)))

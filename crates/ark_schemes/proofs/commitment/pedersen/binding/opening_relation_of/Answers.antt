@@ -1,14 +1,11 @@
-use Rattle.std.proofs.Common.{◌≡◌, ℕ, suc, ◌+◌, ◌-◌, ◌%◌, ◌<◌, ◌≤◌, ◌∷◌, map, Ok, sym, ◌∙◌, ap, ap₂, subst, arith, mod-eq_of_lt}
+use Rattle.std.proofs.Common.{◌≡◌, ℕ, suc, ◌+◌, ◌-◌, ◌%◌, ◌<◌, ◌∷◌, map, Ok, sym, ◌∙◌, ap, ap₂, subst, arith, mod-eq_of_lt}
 use Rattle.ark_base.specs.Outcome.{Outcome, ◌>>=◌}
 use Rattle.ark_base.specs.Laws.Steps.{done_injective}
 use Rattle.ark_groups.specs.Group.{times}
 use Rattle.ark_pedersen.specs.Binding.{combination, AreAllZero}
 use Rattle.ark_pedersen.specs.Pedersen.{bits_of_bytes, windows_sum}
-use Rattle.ark_pedersen.proofs.Relations.{answered, opening, hash_is, no_difference}
+use Rattle.ark_pedersen.proofs.Relations.{positive, answered, opening, hash_is, no_difference}
 use Rattle.ark_schemes.proofs.commitment.pedersen.binding.opening_relation_of.Goals as goal
-
-positive : (r : ℕ) → 2 ≤ r → 0 < r
-positive r l = omega (arith, l)
 
 -- numbers below r are themselves modulo r
 reduced : (r m n x : ℕ) → m < r → n < r → x ≡ (m + (r - n)) % r → x ≡ (m % r + (r - n % r)) % r
@@ -21,7 +18,7 @@ returns-clause-relation g c element elements long same =
     let v = g.C.ScalarField.Valued.value in
     let grp = g.C.AdditiveGroup.group in
     let laws = g.met.C.AdditiveGroup.laws in
-    let pos = positive r g.C.ScalarField.Field.modulus_laws.at_least_two in
+    let pos = positive g.C.ScalarField.Field.modulus_laws in
     let order = g.met.C.AdditiveGroup.order in
     let left = c.args.left.now in
     let right = c.args.right.now in
@@ -54,7 +51,7 @@ returns-clause-some g c none long =
     let zeros : AreAllZero (v c.sub.result ∷ found) =
     subst AreAllZero (ap (λ xs. map v xs) c.in_ok-insert.ensures.items) none in (
       c.in_ok-found.ensures.some (λ k d l. zeros (suc k) d (omega (arith, l))) long,
-      no_difference r g.W.Window.WINDOW_SIZE (positive r g.C.ScalarField.Field.modulus_laws.at_least_two) a.fits m n
+      no_difference r g.W.Window.WINDOW_SIZE (positive g.C.ScalarField.Field.modulus_laws) a.fits m n
           (below c.args.left_randomness.now.0) (below c.args.right_randomness.now.0)
           (sym (reduced r m n (v c.sub.result) (below c.args.left_randomness.now.0)
           (below c.args.right_randomness.now.0) c.sub.ensures) ∙ zeros 0 0 (omega arith)),
