@@ -1,4 +1,4 @@
-/* One call over Jubjub with its secrets marked as undefined, as secrets.c has those of the library.
+/* One call of crates/secret_calls with its secrets marked as undefined, as secrets.c has those of the library.
 
    usage: secret_groups CALL */
 #include <stdint.h>
@@ -15,6 +15,8 @@ int32_t secret_key_by_table(uint8_t key[64], const uint8_t secret[32]);
 void secret_response(uint8_t response[32], const uint8_t nonce[32], const uint8_t secret[32], const uint8_t challenge[32]);
 void secret_encrypted(uint8_t part[64], const uint8_t randomness[32]);
 void secret_decrypted(uint8_t message[64], const uint8_t secret[32]);
+void secret_signature(uint8_t signature[64], const uint8_t seed[32]);
+int32_t secret_same_digest(const uint8_t a[32], const uint8_t b[32]);
 
 static const uint8_t ONE[32] = {1};
 
@@ -46,6 +48,26 @@ static int by_table(void) {
 static int key(void) { return same(secret_key, 7, 0) && same(secret_key, 255, 14); }
 static int encrypted(void) { return same(secret_encrypted, 7, 0) && same(secret_encrypted, 255, 14); }
 static int decrypted(void) { return same(secret_decrypted, 7, 0) && same(secret_decrypted, 255, 14); }
+static int signature(void) { return same(secret_signature, 7, 0) && same(secret_signature, 255, 255); }
+
+/* A digest beside itself, and beside others whose first byte or whose last one differs. */
+static int same_digest(void) {
+    static const int PLACES[] = {0, 31};
+    uint8_t one[32], other[32];
+    int32_t answers[3];
+    size_t i;
+    memset(one, 7, 32);
+    for (i = 0; i < 3; i++) {
+        memset(other, 7, 32);
+        if (i > 0)
+            other[PLACES[i - 1]] = 8;
+        SECRET(one);
+        SECRET(other);
+        answers[i] = secret_same_digest(one, other);
+    }
+    PUBLIC(answers);
+    return answers[0] == 1 && answers[1] == 0 && answers[2] == 0;
+}
 
 /* 9 - 2 3 = 3 */
 static int response(void) {
@@ -77,6 +99,8 @@ static const struct {
     {"response", response},
     {"encrypted", encrypted},
     {"decrypted", decrypted},
+    {"signature", signature},
+    {"same_digest", same_digest},
     {"planted_branch", planted_branch},
 };
 

@@ -2,8 +2,7 @@
 use Rattle.std.proofs.Common.{◌≡◌, ℕ, suc, ◌==◌, ltb, Bool, true, false, cond, List, [], ◌∷◌, length, take, get_or, refl, sym, ◌∙◌, ap, rules, tests, sub-one}
 use Rattle.std.specs.Prelude.{◌&&◌}
 use Rattle.std.specs.Io.BufRead.{take_through, drop_through, strip_last}
-use Rattle.acp_session.specs.Lines.{onto_first}
-use Rattle.acp_run.specs.Lines.{whole_lines_of}
+use Rattle.acp_run.specs.Lines.{onto_first, whole_lines_of}
 
 above_zero : (n : ℕ) → ltb 0 (suc n) ≡ true
 above_zero n = search (rules, tests)

@@ -3,9 +3,9 @@ use Rattle.std.specs.Prelude.{ℕ, List, [], ◌∷◌, ◌++◌, if◌then◌el
 use Rattle.std.specs.Str.{bytes_eq}
 use Rattle.acp_run.specs.declared.command.Configuration.{Configuration}
 use Rattle.acp_run.specs.declared.command.Configuration.TheVariants.{Sha256, Toy}
-use Rattle.acp_session.specs.Language.{Language}
-use Rattle.acp_session.specs.Sha256.{sha_language}
-use Rattle.acp_session.specs.Toy.{toy_language}
+use Rattle.acp_run.specs.Language.{Language}
+use Rattle.acp_run.specs.Sha256.{sha_language}
+use Rattle.acp_run.specs.Toy.{toy_language}
 
 -- the configuration that a word names
 abbrev pub configuration_named : List ℕ → Option Configuration

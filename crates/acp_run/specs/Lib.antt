@@ -1,4 +1,13 @@
+pub mod Arguments
 pub mod Commands
+pub mod Language
+pub mod Laws
 pub mod Lines
+pub mod Replies
+pub mod Requests
 pub mod Sessions
+pub mod Sha256
+pub mod Steps
 pub mod Streams
+pub mod Tokens
+pub mod Toy

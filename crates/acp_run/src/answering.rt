@@ -1,11 +1,11 @@
 //! What answers lines, one after another.
 
 ghost use Rattle.std.specs.Prelude.{◌≡◌, ℕ, List, None, IfOk, OnErr, ⊤};
-ghost use Rattle.acp_session.specs.Language.{Language as OfTokens};
-ghost use Rattle.acp_session.specs.Steps.{HasHashes, State as OfTree, LineStep, state_of};
+ghost use Rattle.acp_run.specs.Language.{Language as OfTokens};
+ghost use Rattle.acp_run.specs.Steps.{HasHashes, State as OfTree, LineStep, state_of};
 
-use acp_session::answer::answer;
-use acp_session::shell::Shell;
+use crate::session::answer::answer;
+use crate::session::shell::Shell;
 use ark_crh::{CRHScheme, TwoToOneCRHScheme};
 use ark_merkle::{LeafParam, MerkleTree, TwoToOneParam, Views};
 use std::alloc::{AllocError, Global};

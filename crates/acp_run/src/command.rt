@@ -4,7 +4,7 @@ ghost use Rattle.std.specs.Prelude.{◌≡◌, ◌≢◌, ◌⊎◌, map, vec_it
 ghost use Rattle.std.specs.Io.KnownBytes.{Appends, Keeps};
 ghost use Rattle.acp_run.specs.Commands.{configuration_of, language_of, usage, stop_notice};
 ghost use Rattle.acp_run.specs.Sessions.{AppendsFront, Halts, LosesFront, Serves, Stops};
-ghost use Rattle.acp_session.specs.Steps.{LineStep};
+ghost use Rattle.acp_run.specs.Steps.{LineStep};
 
 use crate::run::run;
 use crate::streams::{Input, Output};

@@ -5,5 +5,6 @@ pub mod answering;
 pub mod buffered;
 pub mod command;
 pub mod run;
+pub mod session;
 pub mod streams;
 pub mod words;

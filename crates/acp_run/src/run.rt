@@ -5,11 +5,11 @@ ghost use Rattle.std.specs.Io.BufRead.{DropsThrough, strip_last, take_through};
 ghost use Rattle.std.specs.Io.KnownBytes.{Appends, IsAtEnd, Keeps};
 ghost use Rattle.acp_run.specs.Lines.{with_line_feed};
 ghost use Rattle.acp_run.specs.Sessions.{AppendsFront, Halts, HaltsFrom, LosesFront, Serves, ServesFrom, Stops, StopsFrom};
-ghost use Rattle.acp_session.specs.Steps.{LineStep};
+ghost use Rattle.acp_run.specs.Steps.{LineStep};
 
 use crate::answering::{Answering, Session};
+use crate::session::shell::Shell;
 use crate::streams::{Input, Output};
-use acp_session::shell::Shell;
 use ark_merkle::{LeafParam, TwoToOneParam};
 use std::alloc::Global;
 use std::io::{self, ErrorKind};

@@ -3,6 +3,7 @@
 
 mod ed25519_scheme;
 mod empty_log;
+mod jubjub_hashes;
 mod log_tree;
 
 pub use ark_absorb::{collect_sponge_bytes, collect_sponge_field_elements};
@@ -25,8 +26,8 @@ pub mod ff {
         Modulus, PrimeField, UniformRand, Valued, Words,
     };
     pub use ark_wide_fields::{
-        Bls12_381Fr, Bn254Fr, Fp256, InvertibleField, NoInverses, PallasFp, VestaFp, WideModulus,
-        batch_inverse, inverse, power, quotient, square_root,
+        Bls12_381Fr, Bn254Fr, Fp256, InvertibleField, NoInverses, PallasFp, PrimeModulus, VestaFp,
+        WideModulus, batch_inverse, inverse, power, quotient, square_root,
     };
 }
 
@@ -47,7 +48,7 @@ pub mod digest {
 
 /// Pseudorandom functions.
 pub mod prf {
-    pub use ark_schemes::prf::PRF;
+    pub use ark_schemes::prf::{PRF, is_same_digest};
     pub use blake2s::{Blake2s, Blake2s256, Blake2sWithParameterBlock};
 
     /// BLAKE2s (RFC 7693).
@@ -113,7 +114,18 @@ pub mod signature {
 /// Hashes of one input and of two.
 pub mod crh {
     pub use ark_crh::{ArrayHash, CRHScheme, PlainSha256, TwoToOneCRHScheme};
-    pub use jubjub_hashes;
+    pub use poseidon2;
+
+    /// Pedersen's and Bowe-Hopwood's hashes over Jubjub as types that name no group.
+    ///
+    /// Each hashes as the type of `pedersen` or `bowe_hopwood` at `Jubjub` does, by the same definition. A function over a
+    /// tree of these is proved in a tenth of the time: what a call hands over for its bounds ends at them.
+    pub mod jubjub_hashes {
+        pub use crate::jubjub_hashes::{
+            BoweHopwoodCRH, BoweHopwoodParameters, BoweHopwoodTwoToOneCRH, PedersenCRH,
+            PedersenParameters, PedersenTwoToOneCRH,
+        };
+    }
 
     /// SHA-256 (FIPS 180-4).
     pub mod sha256 {
@@ -129,7 +141,8 @@ pub mod crh {
     pub mod pedersen {
         pub use ark_pedersen::{
             CRH, Parameters, TwoToOneCRH, Window, Windows4x64, Windows4x256, Windows63x9,
-            bytes_to_bits, couples_bind, hash_bits, relation_of, windows_fit,
+            bytes_to_bits, couples_bind, hash_bits, relation_of, relations_give_elements,
+            relations_tell_elements, windows_fit,
         };
         pub use ark_schemes::from_label::pedersen_from_label;
     }
@@ -192,6 +205,14 @@ pub mod merkle_tree {
         pub use kept_tree::many::rehash_above;
         pub use kept_tree::multi_path::multi_path_bytes;
         pub use kept_tree::path::{kept_root, path_len, write_path};
+    }
+
+    /// Trees of a fixed depth whose last leaves are empty, of which one node a level is stored.
+    pub mod incremental {
+        pub use incremental_trees::{
+            Completed, EachLevel, IncrementalTree, KeptPath, LevelHasher, TreeRefusal,
+            verify_rising,
+        };
     }
 }
 

@@ -1,9 +1,11 @@
-//! Calls over Jubjub, exported to C so that `bindings/secrets-test` runs their machine code with the secrets marked as
+//! Calls over Jubjub, by a key of Ed25519 and on digests, exported to C so that `bindings/secrets-test` runs their machine code with the secrets marked as
 //! undefined. They stand in no library that is handed out, and promise nothing beyond what they call.
 #![tactic(auto)]
 
 use ark_groups::ec::{AdditiveGroup, FixedBaseGroup};
 use ark_groups::ff::Field;
+use ark_schemes::prf::is_same_digest;
+use ed25519::SigningKey;
 use jubjub::{Jubjub, JubjubFr};
 use std::alloc::Global;
 
@@ -58,4 +60,16 @@ pub extern "C" fn secret_decrypted(message: &mut [u8; 64], secret: &[u8; 32]) {
     let generator = Jubjub::generator();
     let shared = AdditiveGroup::mul(generator, scalar(secret));
     *message = generator.double().add(shared.neg()).to_bytes();
+}
+
+/// Writes the signature of no byte by the key that is made once of a seed.
+#[unsafe(no_mangle)]
+pub extern "C" fn secret_signature(signature: &mut [u8; 64], seed: &[u8; 32]) {
+    *signature = SigningKey::of(*seed).sign(&[]);
+}
+
+/// Returns 1 where two digests are the same bytes, else 0.
+#[unsafe(no_mangle)]
+pub extern "C" fn secret_same_digest(a: &[u8; 32], b: &[u8; 32]) -> i32 {
+    is_same_digest(a.as_slice(), b.as_slice()) as i32
 }

@@ -3,9 +3,9 @@ use Rattle.std.specs.Prelude.{ℕ, ◌+◌, ◌%◌, [], ◌∷◌, Ok}
 use Rattle.std.specs.Option.{option_map}
 use Rattle.ark_base.specs.Outcome.{Outcome}
 use Rattle.ark_paths.specs.Pair.{Digest}
-use Rattle.acp_session.specs.Language.{Language}
-use Rattle.acp_session.specs.Tokens.{number_of_token}
-use Rattle.acp_session.specs.Toy.{toy_language}
+use Rattle.acp_run.specs.Language.{Language}
+use Rattle.acp_run.specs.Tokens.{number_of_token}
+use Rattle.acp_run.specs.Toy.{toy_language}
 
 -- the key and a leaf, modulo 257
 abbrev pub keyed_leaf : ℕ → ℕ → Outcome Digest

@@ -1,6 +1,6 @@
 -- A pair hash that refuses.
-use Rattle.acp_session.specs.Language.{Language}
-use Rattle.acp_session.specs.Toy.{toy_language}
+use Rattle.acp_run.specs.Language.{Language}
+use Rattle.acp_run.specs.Toy.{toy_language}
 use Rattle.ark_trees.specs.Toy.{refusing_pair}
 
 -- that of `toy`, but for the pairs

@@ -4,8 +4,8 @@ ghost use Rattle.std.specs.Prelude.{◌≡◌, Ok, refl};
 ghost use Rattle.std.proofs.Common.{ap, sym, ◌∙◌};
 ghost use Rattle.test_support.specs.Keyed.{keyed_leaf, keyed_language};
 
-use acp_session::shell::Shell;
-use acp_session::tokens::number_of_token;
+use acp_run::session::shell::Shell;
+use acp_run::session::tokens::number_of_token;
 use ark_base::error::Error;
 use ark_crh::CRHScheme;
 use ark_groups::ff::{Field, Fp, M257};

@@ -3,8 +3,8 @@
 ghost use Rattle.std.specs.Prelude.{◌≡◌, refl};
 ghost use Rattle.test_support.specs.Refusing.{refusing_language};
 
-use acp_session::shell::Shell;
-use acp_session::tokens::number_of_token;
+use acp_run::session::shell::Shell;
+use acp_run::session::tokens::number_of_token;
 use ark_groups::ff::{Fp, M257};
 use ark_merkle::{Config, IdentityDigestConverter};
 use ark_trees::toy::{RefusingPairHash, Toy, ToyLeafHash};

@@ -1,5 +1,5 @@
 use Rattle.std.proofs.Common.{None}
-use Rattle.acp_session.specs.Steps.{LineStep}
+use Rattle.acp_run.specs.Steps.{LineStep}
 use Rattle.acp_run.proofs.Runs.{stops_at_once}
 use Rattle.acp_run.proofs.run.run.Goals as goal
 

@@ -1,6 +1,0 @@
-use Rattle.std.proofs.Common.{◌∙◌, Ok, ap, sym}
-use Rattle.acp_session.proofs.proofs.proof_bytes.Goals as goal
-
-pub returns : goal.returns
-returns g c = ap Ok (sym (g.met.T.Proof.bytes_are c.args.proof.now) ∙ sym (rw c.new-bytes.ensures.items at
-    c.in_ok-serialize.ensures.appended))
