@@ -1,4 +1,9 @@
+pub mod AnySecret
 pub mod Claims
 pub mod Decrypting
 pub mod Highest
+pub mod Interpolation
 pub mod Nonces
+pub mod Recovering
+pub mod Responses
+pub mod ShareSteps

@@ -1,2 +1,3 @@
 pub mod ElGamal
 pub mod Schnorr
+pub mod SecretShares
