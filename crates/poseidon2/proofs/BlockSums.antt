@@ -1,5 +1,5 @@
 -- The layer of blocks by sums is the product with the block circulant.
-use Rattle.std.proofs.Common.{◌≡◌, ℕ, zero, suc, ◌+◌, ◌*◌, ◌%◌, ◌<◌, ◌≤◌, List, [], ◌∷◌, ◌++◌, length, get_or, set, drop, map, refl, sym, ◌∙◌, ap, ap₂, arith}
+use Rattle.std.proofs.Common.{◌≡◌, ℕ, zero, suc, ◌+◌, ◌*◌, ◌%◌, ◌<◌, ◌≤◌, List, [], ◌∷◌, ◌++◌, length, get_or, set, drop, map, refl, sym, ◌∙◌, ap, arith}
 use Rattle.std.proofs.Math.Nat.{mod-mod}
 use Rattle.std.proofs.lemmas.List.{length-map, map-set}
 use Rattle.ark_groups.specs.Field.{dot_product}
@@ -27,16 +27,6 @@ map-set_four f s at y0 y1 y2 y3 =
     ∙ ap (λ t. set t (at + 2) (f y2)) (map-set f (set s at y0) (at + 1) y1
     ∙ ap (λ t. set t (at + 1) (f y1)) (map-set f s at y0)))
 
-set_four-past : (a b c d n m y0 y1 y2 y3 : ℕ) (t : List ℕ) → n ≡ past m
-    → set_four (a ∷ b ∷ c ∷ d ∷ t) n y0 y1 y2 y3 ≡ a ∷ b ∷ c ∷ d ∷ set_four t m y0 y1 y2 y3
-set_four-past a b c d n m y0 y1 y2 y3 t e =
-    let one : n + 1 ≡ past (m + 1) = omega (arith, e) in
-    let two : n + 2 ≡ past (m + 2) = omega (arith, e) in
-    let three : n + 3 ≡ past (m + 3) = omega (arith, e) in
-    let all = a ∷ b ∷ c ∷ d ∷ t in
-    ap₂ (λ (i : ℕ) (j : ℕ). set (set (set (set all i y0) j y1) (n + 2) y2) (n + 3) y3) e one
-    ∙ ap₂ (λ (i : ℕ) (j : ℕ). set (set (set (set all (past m) y0) (past (m + 1)) y1) i y2) j y3) two three
-
 get_or-past : (a b c d n m : ℕ) (t : List ℕ) → n ≡ past m → get_or (a ∷ b ∷ c ∷ d ∷ t) n 0 ≡ get_or t m 0
 get_or-past a b c d n m t e = ap (λ k. get_or (a ∷ b ∷ c ∷ d ∷ t) k 0) e
 
@@ -53,47 +43,42 @@ front_blocks-rest g (suc n) k (a ∷ b ∷ c ∷ d ∷ xs) h =
     get_or-past _ _ _ _ _ _ (front_blocks g n xs) e ∙ front_blocks-rest g n k xs (omega (arith, h))
     ∙ sym (get_or-past a b c d _ _ xs e)
 
-front_blocks-step : (g : ℕ → ℕ → ℕ → ℕ → ℕ → ℕ) (n : ℕ) (xs : List ℕ) (x0 x1 x2 x3 : ℕ) → 4 * n + 3 < length xs
-    → x0 ≡ get_or xs (4 * n) 0 → x1 ≡ get_or xs (4 * n + 1) 0 → x2 ≡ get_or xs (4 * n + 2) 0
-    → x3 ≡ get_or xs (4 * n + 3) 0
-    → set_four (front_blocks g n xs) (4 * n) (g 0 x0 x1 x2 x3) (g 1 x0 x1 x2 x3) (g 2 x0 x1 x2 x3) (g 3 x0 x1 x2 x3)
-    ≡ front_blocks g (suc n) xs
-front_blocks-step g n [] x0 x1 x2 x3 h e0 e1 e2 e3 = absurd (omega (arith, h))
-front_blocks-step g n (a ∷ []) x0 x1 x2 x3 h e0 e1 e2 e3 = absurd (omega (arith, h))
-front_blocks-step g n (a ∷ b ∷ []) x0 x1 x2 x3 h e0 e1 e2 e3 = absurd (omega (arith, h))
-front_blocks-step g n (a ∷ b ∷ c ∷ []) x0 x1 x2 x3 h e0 e1 e2 e3 = absurd (omega (arith, h))
-front_blocks-step g zero (a ∷ b ∷ c ∷ d ∷ xs) x0 x1 x2 x3 h e0 e1 e2 e3 =
-    let out = λ (p q r s : ℕ). g 0 p q r s ∷ g 1 p q r s ∷ g 2 p q r s ∷ g 3 p q r s ∷ xs in
-    ap₂ (λ p q. out p q x2 x3) e0 e1 ∙ ap₂ (λ r s. out a b r s) e2 e3
-front_blocks-step g (suc n) (a ∷ b ∷ c ∷ d ∷ xs) x0 x1 x2 x3 h e0 e1 e2 e3 =
+-- what g gives for the four numbers of xs from a place on, written there in t
+abbrev turned_at : (ℕ → ℕ → ℕ → ℕ → ℕ → ℕ) → List ℕ → List ℕ → ℕ → List ℕ
+turned_at g xs t at =
+    let image = λ (c : ℕ).
+    g c (get_or xs at 0) (get_or xs (at + 1) 0) (get_or xs (at + 2) 0) (get_or xs (at + 3) 0) in
+    set_four t at (image 0) (image 1) (image 2) (image 3)
+
+front_blocks-step : (g : ℕ → ℕ → ℕ → ℕ → ℕ → ℕ) (n : ℕ) (xs : List ℕ) → 4 * n + 3 < length xs
+    → turned_at g xs (front_blocks g n xs) (4 * n) ≡ front_blocks g (suc n) xs
+front_blocks-step g n [] h = absurd (omega (arith, h))
+front_blocks-step g n (a ∷ []) h = absurd (omega (arith, h))
+front_blocks-step g n (a ∷ b ∷ []) h = absurd (omega (arith, h))
+front_blocks-step g n (a ∷ b ∷ c ∷ []) h = absurd (omega (arith, h))
+front_blocks-step g zero (a ∷ b ∷ c ∷ d ∷ xs) h = refl
+front_blocks-step g (suc n) (a ∷ b ∷ c ∷ d ∷ xs) h =
     let front = λ (t : List ℕ). g 0 a b c d ∷ g 1 a b c d ∷ g 2 a b c d ∷ g 3 a b c d ∷ t in
     let at0 : 4 * suc n ≡ past (4 * n) = omega arith in
     let at1 : 4 * suc n + 1 ≡ past (4 * n + 1) = omega arith in
     let at2 : 4 * suc n + 2 ≡ past (4 * n + 2) = omega arith in
     let at3 : 4 * suc n + 3 ≡ past (4 * n + 3) = omega arith in
-    set_four-past _ _ _ _ _ _ _ _ _ _ (front_blocks g n xs) at0
-    ∙ ap front (front_blocks-step g n xs x0 x1 x2 x3 (omega (arith, h)) (e0 ∙ get_or-past a b c d _ _ xs at0)
-    (e1 ∙ get_or-past a b c d _ _ xs at1) (e2 ∙ get_or-past a b c d _ _ xs at2) (e3 ∙ get_or-past a b c d _ _ xs at3))
+    rw (at1, at2, at3, at0) (ap front (front_blocks-step g n xs (omega (arith, h))))
 
--- one block more: z is what stands in block n, y what is written there
-pub block-more : (g : ℕ → ℕ → ℕ → ℕ → ℕ → ℕ) (n : ℕ) (xs s : List ℕ) (z0 z1 z2 z3 y0 y1 y2 y3 : ℕ)
-    → 4 * n + 3 < length xs → s ≡ front_blocks g n xs → z0 ≡ get_or s (4 * n) 0 → z1 ≡ get_or s (4 * n + 1) 0
-    → z2 ≡ get_or s (4 * n + 2) 0 → z3 ≡ get_or s (4 * n + 3) 0 → y0 ≡ g 0 z0 z1 z2 z3 → y1 ≡ g 1 z0 z1 z2 z3
-    → y2 ≡ g 2 z0 z1 z2 z3 → y3 ≡ g 3 z0 z1 z2 z3
-    → set_four s (4 * n) y0 y1 y2 y3 ≡ front_blocks g (n + 1) xs
-block-more g n xs s z0 z1 z2 z3 y0 y1 y2 y3 h is r0 r1 r2 r3 e0 e1 e2 e3 =
+-- one block more: what g gives for the numbers of block n is written in their place
+pub block-more : (g : ℕ → ℕ → ℕ → ℕ → ℕ → ℕ) (n : ℕ) (xs : List ℕ) → 4 * n + 3 < length xs
+    → turned_at g (front_blocks g n xs) (front_blocks g n xs) (4 * n) ≡ front_blocks g (n + 1) xs
+block-more g n xs h =
     let fits : 4 * n ≤ length xs = omega (arith, h) in
     let front = front_blocks g n xs in
-    let read = λ (k : ℕ). ap (λ t. get_or t (4 * n + k) 0) is ∙ front_blocks-rest g n k xs fits in
+    let read = λ (k : ℕ). front_blocks-rest g n k xs fits in
     let none : 4 * n ≡ 4 * n + 0 = omega arith in
-    let read0 : get_or s (4 * n) 0 ≡ get_or xs (4 * n) 0 =
-    ap (λ m. get_or s m 0) none ∙ read 0 ∙ sym (ap (λ m. get_or xs m 0) none) in
+    let read0 : get_or front (4 * n) 0 ≡ get_or xs (4 * n) 0 =
+    ap (λ m. get_or front m 0) none ∙ read 0 ∙ sym (ap (λ m. get_or xs m 0) none) in
     let more : suc n ≡ n + 1 = omega arith in
-    ap₂ (λ t y. set_four t (4 * n) y y1 y2 y3) is e0
-    ∙ ap₂ (λ y z. set_four front (4 * n) (g 0 z0 z1 z2 z3) y z y3) e1 e2
-    ∙ ap (λ y. set_four front (4 * n) (g 0 z0 z1 z2 z3) (g 1 z0 z1 z2 z3) (g 2 z0 z1 z2 z3) y) e3
-    ∙ front_blocks-step g n xs z0 z1 z2 z3 h (r0 ∙ read0) (r1 ∙ read 1) (r2 ∙ read 2) (r3 ∙ read 3)
-    ∙ ap (λ m. front_blocks g m xs) more
+    let step : turned_at g xs front (4 * n) ≡ front_blocks g (n + 1) xs =
+    front_blocks-step g n xs h ∙ ap (λ m. front_blocks g m xs) more in
+    rw (read0, read 1, read 2, read 3) step
 
 -- the sum over one block more
 column-step : (c n : ℕ) (xs : List ℕ) → 4 * n ≤ length xs
@@ -115,13 +100,14 @@ column-step c (suc n) (w ∷ x ∷ y ∷ z ∷ xs) h =
     let new : column c (suc (suc n)) (w ∷ x ∷ y ∷ z ∷ xs) ≡ one + column c (suc n) xs = refl in
     omega (arith, same, rest, old, new)
 
--- the same modulo p, at a sum and an element that is read
-pub column-more : (p c n : ℕ) (xs : List ℕ) (all x new : ℕ) → 4 * n ≤ length xs → all ≡ column c n xs % p
-    → x ≡ get_or xs (4 * n + c) 0 → new ≡ (all + x) % p → new ≡ column c (n + 1) xs % p
-column-more p c n xs all x new h is_all is_x is_new =
+-- the same modulo p
+pub column-more : (p c n : ℕ) (xs : List ℕ) → 4 * n ≤ length xs
+    → (column c n xs % p + get_or xs (4 * n + c) 0) % p ≡ column c (n + 1) xs % p
+column-more p c n xs h =
     let more : suc n ≡ n + 1 = omega arith in
-    is_new ∙ same_sum p all (column c n xs) x (get_or xs (4 * n + c) 0)
-    (ap (λ m. m % p) is_all ∙ mod-mod (column c n xs) p) (ap (λ m. m % p) is_x)
+    let all = column c n xs in
+    let x = get_or xs (4 * n + c) 0 in
+    same_sum p (all % p) all x x (mod-mod all p) refl
     ∙ ap (λ m. m % p) (column-step c n xs h ∙ ap (λ m. column c m xs) more)
 
 -- ---- blocks, and the block circulant
@@ -195,24 +181,29 @@ circulated p row t (suc n) ys =
     at 0 ∷ at 1 ∷ at 2 ∷ at 3 ∷ circulated p row t n (drop 4 ys)
 
 -- four equal numbers before equal lists
-four-same : (a b c d k l m n : ℕ) (s t : List ℕ) → a ≡ k → b ≡ l → c ≡ m → d ≡ n → s ≡ t
-    → a ∷ b ∷ c ∷ d ∷ s ≡ k ∷ l ∷ m ∷ n ∷ t
-four-same a b c d k l m n s t e0 e1 e2 e3 e =
-    ap₂ (λ x y. x ∷ y ∷ c ∷ d ∷ s) e0 e1 ∙ ap₂ (λ x y. k ∷ l ∷ x ∷ y ∷ s) e2 e3 ∙ ap (λ r. k ∷ l ∷ m ∷ n ∷ r) e
+four-same : (u v : ℕ → ℕ) (s t : List ℕ) → ((c : ℕ) → c < 4 → u c ≡ v c) → s ≡ t
+    → u 0 ∷ u 1 ∷ u 2 ∷ u 3 ∷ s ≡ v 0 ∷ v 1 ∷ v 2 ∷ v 3 ∷ t
+four-same u v s t each e =
+    let same0 = each 0 (omega arith) in
+    let same1 = each 1 (omega arith) in
+    let same2 = each 2 (omega arith) in
+    let same3 = each 3 (omega arith) in
+    rw (same0, same1, same2, same3, e) refl
 
 product-rows_of_blocks : (p : ℕ) (row : ℕ → List ℕ) (k b n : ℕ) (xs : List ℕ) → ((c : ℕ) → length (row c) ≡ 4)
     → b + n ≡ k
     → matrix_product p (rows_of_blocks row k b n) xs ≡ circulated p row (λ c. dots (row c) k xs) n (behind b xs)
 product-rows_of_blocks p row k b zero xs four all = refl
 product-rows_of_blocks p row k b (suc n) xs four all =
-    let one : (c : ℕ) → dot_product (block_row k b (row c)) xs % p
-    ≡ (dots (row c) k xs + dot_product (row c) (behind b xs)) % p =
-    λ c. ap (λ m. m % p) (dot-block_row (row c) k b xs (four c) (omega (arith, all))) in
+    let left = λ (c : ℕ). dot_product (block_row k b (row c)) xs % p in
+    let right = λ (c : ℕ). (dots (row c) k xs + dot_product (row c) (behind b xs)) % p in
+    let one : (c : ℕ) → c < 4 → left c ≡ right c =
+    λ c h. ap (λ m. m % p) (dot-block_row (row c) k b xs (four c) (omega (arith, all))) in
     let rest : matrix_product p (rows_of_blocks row k (suc b) n) xs
     ≡ circulated p row (λ c. dots (row c) k xs) n (drop 4 (behind b xs)) =
     product-rows_of_blocks p row k (suc b) n xs four (omega (arith, all))
     ∙ ap (circulated p row (λ c. dots (row c) k xs) n) (behind-suc b xs) in
-    four-same _ _ _ _ _ _ _ _ _ _ (one 0) (one 1) (one 2) (one 3) rest
+    four-same left right _ _ one rest
 
 -- a row of four takes no more than four numbers
 dot-four : (row : List ℕ) (a b c d : ℕ) (xs : List ℕ) → length row ≡ 4
@@ -223,6 +214,12 @@ dot-four (m ∷ n ∷ []) a b c d xs four = refl
 dot-four (m ∷ n ∷ o ∷ []) a b c d xs four = refl
 dot-four (m ∷ n ∷ o ∷ q ∷ []) a b c d xs four = refl
 dot-four (m ∷ n ∷ o ∷ q ∷ r ∷ row) a b c d xs four = absurd (omega (arith, four))
+
+-- the sums of n blocks, place by place, added to each of them
+abbrev added_columns : ℕ → ℕ → List ℕ → List ℕ
+added_columns p n xs =
+    let all = λ (c : ℕ). column c n xs % p in
+    front_blocks (sum_at p (all 0) (all 1) (all 2) (all 3)) n xs
 
 -- the sums at the four places of the blocks' images are the rows' sums over all blocks
 module _ (p : ℕ) (row : ℕ → List ℕ) (four : (c : ℕ) → length (row c) ≡ 4) where
@@ -250,40 +247,37 @@ module _ (p : ℕ) (row : ℕ → List ℕ) (four : (c : ℕ) → length (row c)
       (ap (λ m. m % p) (place c w x y z xs n h) ∙ mod-mod (dot_product (row c) all) p)
       (column-images c n xs h (omega (arith, fits)))
 
-  added-images : (s0 s1 s2 s3 : ℕ) (t : ℕ → ℕ) (n : ℕ) (xs : List ℕ) → length xs ≡ 4 * n → s0 % p ≡ t 0 % p
-      → s1 % p ≡ t 1 % p → s2 % p ≡ t 2 % p → s3 % p ≡ t 3 % p
-      → front_blocks (sum_at p s0 s1 s2 s3) n (front_blocks (row_times p row) n xs) ≡ circulated p row t n xs
-  added-images s0 s1 s2 s3 t zero [] long e0 e1 e2 e3 = refl
-  added-images s0 s1 s2 s3 t zero (x ∷ xs) long e0 e1 e2 e3 = absurd (omega (arith, long))
-  added-images s0 s1 s2 s3 t (suc n) [] long e0 e1 e2 e3 = absurd (omega (arith, long))
-  added-images s0 s1 s2 s3 t (suc n) (w ∷ []) long e0 e1 e2 e3 = absurd (omega (arith, long))
-  added-images s0 s1 s2 s3 t (suc n) (w ∷ x ∷ []) long e0 e1 e2 e3 = absurd (omega (arith, long))
-  added-images s0 s1 s2 s3 t (suc n) (w ∷ x ∷ y ∷ []) long e0 e1 e2 e3 = absurd (omega (arith, long))
-  added-images s0 s1 s2 s3 t (suc n) (w ∷ x ∷ y ∷ z ∷ xs) long e0 e1 e2 e3 =
+  added-images : (s t : ℕ → ℕ) (n : ℕ) (xs : List ℕ) → length xs ≡ 4 * n
+      → ((c : ℕ) → c < 4 → s c % p ≡ t c % p)
+      → front_blocks (sum_at p (s 0) (s 1) (s 2) (s 3)) n (front_blocks (row_times p row) n xs)
+      ≡ circulated p row t n xs
+  added-images s t zero [] long same = refl
+  added-images s t zero (x ∷ xs) long same = absurd (omega (arith, long))
+  added-images s t (suc n) [] long same = absurd (omega (arith, long))
+  added-images s t (suc n) (w ∷ []) long same = absurd (omega (arith, long))
+  added-images s t (suc n) (w ∷ x ∷ []) long same = absurd (omega (arith, long))
+  added-images s t (suc n) (w ∷ x ∷ y ∷ []) long same = absurd (omega (arith, long))
+  added-images s t (suc n) (w ∷ x ∷ y ∷ z ∷ xs) long same =
       let all = w ∷ x ∷ y ∷ z ∷ xs in
       let short = w ∷ x ∷ y ∷ z ∷ [] in
       let turned : (m n : ℕ) → m + n ≡ n + m = λ m n. omega arith in
-      let one : (c s : ℕ) → s % p ≡ t c % p
-      → (dot_product (row c) short % p + s) % p ≡ (t c + dot_product (row c) all) % p =
-      λ c s e. same_sum p (dot_product (row c) short % p) (dot_product (row c) all) s (t c)
-      (mod-mod (dot_product (row c) short) p ∙ ap (λ m. m % p) (dot-four (row c) w x y z xs (four c))) e
+      let left = λ (c : ℕ). (dot_product (row c) short % p + s c) % p in
+      let right = λ (c : ℕ). (t c + dot_product (row c) all) % p in
+      let one : (c : ℕ) → c < 4 → left c ≡ right c =
+      λ c h. same_sum p (dot_product (row c) short % p) (dot_product (row c) all) (s c) (t c)
+      (mod-mod (dot_product (row c) short) p ∙ ap (λ m. m % p) (dot-four (row c) w x y z xs (four c))) (same c h)
       ∙ ap (λ m. m % p) (turned (dot_product (row c) all) (t c)) in
-      let rest = added-images s0 s1 s2 s3 t n xs (omega (arith, long)) e0 e1 e2 e3 in
-      four-same _ _ _ _ _ _ _ _ _ _ (one 0 s0 e0) (one 1 s1 e1) (one 2 s2 e2) (one 3 s3 e3) rest
+      four-same left right _ _ one (added-images s t n xs (omega (arith, long)) same)
 
   -- blocks multiplied, and the sums at each place added, are the product with the block circulant
-  pub circulant-by-sums : (s0 s1 s2 s3 n : ℕ) (xs mid : List ℕ) → length xs ≡ 4 * n
-      → mid ≡ front_blocks (row_times p row) n xs → s0 ≡ column 0 n mid % p → s1 ≡ column 1 n mid % p
-      → s2 ≡ column 2 n mid % p → s3 ≡ column 3 n mid % p
-      → front_blocks (sum_at p s0 s1 s2 s3) n mid ≡ matrix_product p (block_circulant row n) xs
-  circulant-by-sums s0 s1 s2 s3 n xs mid long is e0 e1 e2 e3 =
+  pub circulant-by-sums : (n : ℕ) (xs : List ℕ) → length xs ≡ 4 * n
+      → added_columns p n (front_blocks (row_times p row) n xs) ≡ matrix_product p (block_circulant row n) xs
+  circulant-by-sums n xs long =
       let fits : 4 * n ≤ length xs = omega (arith, long) in
-      let one : (c s : ℕ) → c < 4 → s ≡ column c n mid % p → s % p ≡ dots (row c) n xs % p =
-      λ c s h e. ap (λ m. m % p) e ∙ mod-mod (column c n mid) p ∙ ap (λ t. column c n t % p) is
-      ∙ column-images c n xs h fits in
-      ap (front_blocks (sum_at p s0 s1 s2 s3) n) is
-      ∙ added-images s0 s1 s2 s3 (λ c. dots (row c) n xs) n xs long (one 0 s0 (omega arith) e0)
-      (one 1 s1 (omega arith) e1) (one 2 s2 (omega arith) e2) (one 3 s3 (omega arith) e3)
+      let mid = front_blocks (row_times p row) n xs in
+      let one : (c : ℕ) → c < 4 → column c n mid % p % p ≡ dots (row c) n xs % p =
+      λ c h. mod-mod (column c n mid) p ∙ column-images c n xs h fits in
+      added-images (λ c. column c n mid % p) (λ c. dots (row c) n xs) n xs long one
       ∙ sym (product-rows_of_blocks p row n 0 n xs four (omega arith))
 
   -- one block multiplied is the product with the matrix of four by four

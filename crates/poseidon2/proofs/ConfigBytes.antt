@@ -1,5 +1,5 @@
 -- Parameters are written and read by way of elements, and their canonical bytes are those of numbers.
-use Rattle.std.proofs.Common.{◌≡◌, ℕ, zero, suc, ◌<◌, List, [], ◌∷◌, ◌++◌, map, Ok, Err, refl, sym, ap, ◌∙◌}
+use Rattle.std.proofs.Common.{◌≡◌, ℕ, zero, suc, ◌<◌, List, [], ◌∷◌, map, Ok, Err, refl, sym, ap, ◌∙◌}
 use Rattle.std.specs.List.{flat_map, AllByRecursion}
 use Rattle.std.proofs.lemmas.List.{length-map}
 use Rattle.ark_base.specs.declared.error.Error.{Error}
@@ -186,11 +186,3 @@ module _ {F V : Type 0} (view : F → V) (value : F → ℕ) where
       texts : (xs : List F) → flat_map spell (map view xs) ≡ flat_map of_number (map value xs)
       texts [] = refl
       texts (x ∷ xs) = rw (is x, texts xs) refl
-
--- the texts of the lists, in their places
-pub with_lists : (before after alpha first first' partial partial' last last' diagonal diagonal' : List ℕ)
-    → first ≡ first' → partial ≡ partial' → last ≡ last' → diagonal ≡ diagonal'
-    → after ≡ before ++ (alpha ++ (first ++ (partial ++ (last ++ diagonal))))
-    → after ≡ before ++ (alpha ++ (first' ++ (partial' ++ (last' ++ diagonal'))))
-with_lists before after alpha first first' partial partial' last last' diagonal diagonal' e0 e1 e2 e3 is =
-    rw (← e0, ← e1, ← e2, ← e3) is

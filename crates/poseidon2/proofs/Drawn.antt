@@ -3,7 +3,7 @@ use Rattle.std.proofs.Common.{◌≡◌, ℕ, zero, suc, ◌-◌, ◌/◌, ◌==
 use Rattle.ark_base.specs.declared.error.Error.{Error}
 use Rattle.ark_base.specs.Laws.Steps.{done_injective}
 use Rattle.ark_base.specs.Outcome.{Outcome, AnswersBy}
-use Rattle.poseidon_grain.specs.Grain.{below_drawn, list_drawn}
+use Rattle.poseidon_grain.specs.Grain.{seeded, below_drawn, list_drawn}
 use Rattle.poseidon_grain.specs.Poseidon2.{poseidon2_drawn}
 use Rattle.poseidon_grain.proofs.Shapes.{length-drawn}
 use Rattle.poseidon2.specs.Permutation.{Poseidon2Parameters, are_wide}
@@ -26,7 +26,8 @@ rows-wide element width (suc count) register =
 pub bn254-lawful : (p digits : ℕ) → drawn_outcome p digits 5 8 56 (1 ∷ 1 ∷ 2 ∷ []) ≡ Ok (bn254_parameters p digits)
 unfolding poseidon2_drawn
 bn254-lawful p digits =
-    rw (rows-wide (below_drawn p digits) 3 (8 / 2) _, rows-wide (below_drawn p digits) 3 (8 - 8 / 2) _) refl
+    let first = rows-wide (below_drawn p digits) 3 (8 / 2) (seeded digits 3 8 56) in
+    rw (first, rows-wide (below_drawn p digits) 3 (8 - 8 / 2) _) refl
 
 -- what answers the diagonal that was made, answers BN254's parameters
 pub bn254-answers : (p digits : ℕ) (ds : List ℕ) (result : Outcome Poseidon2Parameters) → 2 % p ≡ 2

@@ -19,6 +19,6 @@ double-Is p t u m e f =
     let twice : 2 * u ≡ u + u = omega arith in
     sum-Is p t u u m m (e ∙ ap (λ n. n % p) twice) f f
 
--- the last sum, which is what a row gives
-pub last-Is : (p t u v m n k : ℕ) → t ≡ (u + v) % p → Is p u m → Is p v n → m + n ≡ k → t ≡ k % p
-last-Is p t u v m n k e f g h = e ∙ same_sum p u m v n f g ∙ ap (λ n. n % p) h
+-- the last sum, which is below p
+pub last-Is : (p t u v m n : ℕ) → t ≡ (u + v) % p → Is p u m → Is p v n → t ≡ (m + n) % p
+last-Is p t u v m n e f g = e ∙ same_sum p u m v n f g

@@ -1,11 +1,9 @@
 -- Sums of a state with multiples of its numbers are the product with a matrix of ones and a diagonal.
 use Rattle.std.proofs.Common.{◌≡◌, ℕ, zero, suc, ◌+◌, ◌*◌, ◌%◌, ◌<◌, ◌≤◌, List, [], ◌∷◌, length, get_or, set, take, drop, map, replicate, sum, fold, refl, sym, ◌∙◌, ap, ap₂, arith, add-one}
 use Rattle.std.proofs.Math.Nat.{mod-mod}
-use Rattle.std.proofs.lemmas.List.{length-map, map-set}
 use Rattle.ark_groups.specs.Field.{dot_product}
 use Rattle.ark_sponge.specs.Permutation.{matrix_product, sums}
 use Rattle.ark_sponge.proofs.Products.{same_sum}
-use Rattle.ark_sponge.proofs.Rows.{read}
 use Rattle.poseidon2.specs.Matrices.{ones_plus, ones_plus_from, internal_matrix}
 
 -- the first numbers of a list combined with those of another, the others as they are
@@ -33,18 +31,12 @@ combined-rest g (x ∷ xs) [] (suc i) = refl
 combined-rest g (x ∷ xs) (d ∷ ds) zero = refl
 combined-rest g (x ∷ xs) (d ∷ ds) (suc i) = combined-rest g xs ds i
 
--- one element more, at elements that f reads as numbers
-pub combined-more : {F : Type 0} (f : F → ℕ) (g : ℕ → ℕ → ℕ) (init s : List F) (ds : List ℕ) (i d : ℕ) (a r : F)
-    → length s ≡ length init → i < length init → i < length ds → map f s ≡ combined g (map f init) (take i ds)
-    → a ≡ get_or s i a → d ≡ get_or ds i 0 → f r ≡ g (f a) d
-    → map f (set s i r) ≡ combined g (map f init) (take (i + 1) ds)
-combined-more f g init s ds i d a r len within in_ds so_far is_a is_d new =
-    let xs = map f init in
-    let old : f a ≡ get_or xs i 0 =
-    read f s i a (omega (arith, len, within)) is_a ∙ ap (λ t. get_or t i 0) so_far ∙ combined-rest g xs ds i in
-    let is : f r ≡ g (get_or xs i 0) (get_or ds i 0) = new ∙ ap₂ g old is_d in
-    map-set f s i r ∙ ap₂ (λ t n. set t i n) so_far is ∙ combined-step g xs ds i (rw length-map within) in_ds
-    ∙ ap (λ n. combined g xs (take n ds)) (sym (add-one i))
+-- one number more
+pub combined-more : (g : ℕ → ℕ → ℕ) (xs ds : List ℕ) (i : ℕ) → i < length xs → i < length ds
+    → let t = combined g xs (take i ds) in
+    set t i (g (get_or t i 0) (get_or ds i 0)) ≡ combined g xs (take (i + 1) ds)
+combined-more g xs ds i within in_ds =
+    rw (combined-rest g xs ds i, combined-step g xs ds i within in_ds, add-one i) refl
 
 -- constants, and an S-box
 pub combined-images : (p : ℕ) (sbox : ℕ → ℕ) (xs cs : List ℕ) → length cs ≡ length xs

@@ -1,6 +1,6 @@
 //! The hash of two elements that is a permutation cut short.
 
-ghost use Rattle.std.specs.Prelude.{◌≡◌, ◌+◌, ◌-◌, ◌≤◌, ℕ, List, ◌∷◌, [], ◌++◌, map, length, take, replicate, vec_len, IfOk, Ok, Err};
+ghost use Rattle.std.specs.Prelude.{◌≡◌, ◌+◌, ◌-◌, ◌≤◌, ℕ, List, ◌∷◌, [], ◌++◌, map, length, take, replicate, vec_len, IfOk, IsOk, Ok, Err};
 ghost use Rattle.ark_base.specs.Outcome.{AnswersBy};
 ghost use Rattle.ark_base.specs.declared.error.Refusal.TheVariants.{SetupNotAvailable};
 ghost use Rattle.poseidon2.specs.Permutation.{poseidon2_permutation};
@@ -59,10 +59,17 @@ fn hash_of_two<F: Field, S: SBox<F>, B: BlockMatrix<F>>(
     left: F,
     right: F,
 ) -> Result<F, Error>
-    ensures { AnswersBy (λ x. F.value x ∷ [])
+    ensures hash { AnswersBy (λ x. F.value x ∷ [])
         (poseidon2_hash F.MODULUS S.image B.matrix parameters.now
         (F.value left ∷ []) (F.value right ∷ [])) result }
+    ensures three { length parameters.now.diagonal ≡ 3 → IsOk result }
 {
+    // This list shows that three elements fit in memory.
+    let diagonal = parameters.diagonal();
+    if diagonal.len() == 3 {
+        let mut state = [left, right, F::zero()];
+        return Ok(first_of_permuted::<F, S, B>(parameters, &mut state));
+    }
     let mut state = state_of(alloc, left, right, parameters.width())?;
     Ok(first_of_permuted::<F, S, B>(parameters, &mut state))
 }
@@ -100,24 +107,30 @@ impl<F: Field + DigestItem, S: SBox<F>, B: BlockMatrix<F>> TwoToOneCRHScheme
         left: &F,
         right: &F,
     ) -> Result<F, Error>
-        ensures { AnswersBy (λ x. F.value x ∷ [])
+        ensures hash { AnswersBy (λ x. F.value x ∷ [])
             (poseidon2_hash F.MODULUS S.image B.matrix parameters.now
             (F.value left.now ∷ []) (F.value right.now ∷ [])) result }
+
+        // Three elements need no memory.
+        ensures three { length parameters.now.diagonal ≡ 3 → IsOk result }
     {
         hash_of_two::<F, S, B>(alloc, parameters, *left, *right)
     }
 
-    /// Returns the first element of the permutation of left, right, and zeros up to the width. The only error is
-    /// `OutOfMemory`.
+    /// Returns the first element of the permutation of left, right, and zeros up to the width. It allocates nothing for a
+    /// width of three; else the only error is `OutOfMemory`.
     fn compress(
         alloc: Global,
         parameters: &Poseidon2Config<F>,
         left: &F,
         right: &F,
     ) -> Result<F, Error>
-        ensures { AnswersBy (λ x. F.value x ∷ [])
+        ensures hash { AnswersBy (λ x. F.value x ∷ [])
             (poseidon2_hash F.MODULUS S.image B.matrix parameters.now
             (F.value left.now ∷ []) (F.value right.now ∷ [])) result }
+
+        // Three elements need no memory.
+        ensures three { length parameters.now.diagonal ≡ 3 → IsOk result }
     {
         hash_of_two::<F, S, B>(alloc, parameters, *left, *right)
     }

@@ -1,5 +1,6 @@
-use Rattle.std.proofs.Common.{◌≡◌, ℕ, List, ◌+◌, ◌*◌, ◌%◌, ◌<◌, ◌≤◌, length, get_or, map, replicate, ap, sym, ◌∙◌, arith}
-use Rattle.std.proofs.lemmas.List.{length-map, take_all, get_or-replicate}
+use Rattle.std.proofs.Common.{◌≡◌, ℕ, List, ◌+◌, ◌*◌, ◌%◌, ◌<◌, ◌≤◌, length, get_or, map, take, replicate, ap, sym, ◌∙◌, arith}
+use Rattle.std.proofs.lemmas.List.{length-map, map-set, take_all, get_or-replicate}
+use Rattle.ark_sponge.proofs.Rows.{read}
 use Rattle.poseidon2.proofs.Ones.{combined, combined-nil, combined-more, total-by-sums, length-ones}
 use Rattle.poseidon2.proofs.layers.add_total.Goals as goal
 
@@ -15,10 +16,15 @@ loop-i-preserved g c =
     let i = c.loop-i.i in
     let within : i < width = omega arith in
     let ones : List ℕ = replicate width 1 in
+    let x = f c.index-state-i.result in
+    let once : x + all ≡ x * 1 + all = omega arith in
     let one : 1 ≡ get_or ones i 0 = sym (get_or-replicate width i 1 0 within) in
-    let times : f c.index-state-i.result + all ≡ f c.index-state-i.result * 1 + all = omega arith in
-    combined-more f (λ x d. (x * d + all) % p) c.args.state.now c.loop-i.state ones i 1 _ _ (omega arith) within
-    (rw (length-ones width) within) c.loop-i.invariant c.index-state-i.is one (c.add.ensures ∙ ap (λ m. m % p) times)
+    let times : x + all ≡ x * get_or ones i 0 + all = once ∙ ap (λ d. x * d + all) one in
+    let sum = ◌∙◌ {b = (x + all) % p} c.add.ensures (ap (λ m. m % p) times) in
+    let is = read f c.loop-i.state i c.index-state-i.result (omega arith) c.index-state-i.is in
+    rw (map-set f c.loop-i.state i c.add.result, sum, is, c.loop-i.invariant)
+    (combined-more (λ x d. (x * d + all) % p) (map f c.args.state.now) ones i (rw length-map within)
+    (rw (length-ones width) within))
 
 pub returns : goal.returns
 returns g c =
@@ -29,6 +35,7 @@ returns g c =
     let xs = map f c.args.state.now in
     let ones : List ℕ = replicate width 1 in
     let end : width ≤ c.loop-i.i = omega arith in
-    c.loop-i.invariant
-    ∙ ap (combined (λ x d. (x * d + all) % p) xs) (take_all c.loop-i.i ones (rw (length-ones width) end))
-    ∙ total-by-sums p all width xs (sym (length-map c.args.state.now f)) c.total-all.ensures
+    let by = combined (λ x d. (x * d + all) % p) xs in
+    let whole = ap by (take_all c.loop-i.i ones (rw (length-ones width) end)) in
+    let product = total-by-sums p all width xs (sym (length-map c.args.state.now f)) c.total-all.ensures in
+    ◌∙◌ {b = by (take c.loop-i.i ones)} c.loop-i.invariant (◌∙◌ {b = by ones} whole product)

@@ -16,13 +16,14 @@ loop-b-preserved g c =
     let b = c.loop-b.b in
     let within : 4 * b ≤ length c.args.state.now = omega arith in
     let fits : 4 * b ≤ length xs = rw length-map within in
-    let front : 4 * b ≡ 4 * b + 0 = omega arith in
+    let front : get_or xs (4 * b) 0 ≡ get_or xs (4 * b + 0) 0 = ap (λ m. get_or xs m 0) (omega arith) in
     let read = c.block_at.ensures in
     let so_far = c.loop-b.invariant in
     let sums = c.sum_of_blocks-all.ensures in
-    let more = λ (k : ℕ). column-more g.F.Field.MODULUS k b xs in (
-      more 0 _ _ _ fits so_far.0 (read.w0 ∙ ap (λ m. get_or xs m 0) front) sums.w0,
-      more 1 _ _ _ fits so_far.1 read.w1 sums.w1,
-      more 2 _ _ _ fits so_far.2 read.w2 sums.w2,
-      more 3 _ _ _ fits so_far.3 read.w3 sums.w3,
+    let p = g.F.Field.MODULUS in
+    let more = λ (k : ℕ). column-more p k b xs fits in (
+      rw (sums.w0, so_far.0, read.w0, front) (more 0),
+      rw (sums.w1, so_far.1, read.w1) (more 1),
+      rw (sums.w2, so_far.2, read.w2) (more 2),
+      rw (sums.w3, so_far.3, read.w3) (more 3),
     )

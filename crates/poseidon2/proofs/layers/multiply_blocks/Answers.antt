@@ -1,4 +1,4 @@
-use Rattle.std.proofs.Common.{◌+◌, ◌*◌, ◌<◌, length, map, ◌∙◌, arith}
+use Rattle.std.proofs.Common.{◌+◌, ◌*◌, ◌<◌, length, map, arith}
 use Rattle.std.proofs.lemmas.List.{length-map}
 use Rattle.poseidon2.specs.Blocks.{row_times}
 use Rattle.poseidon2.proofs.BlockSums.{block-more}
@@ -10,6 +10,17 @@ loop-b-preserved g c =
     let within : 4 * c.loop-b.b + 3 < length c.args.state.now = omega arith in
     let read = c.block_at.ensures in
     let made = c.multiply-product.ensures in
-    c.write_block.ensures ∙ block-more (row_times g.F.Field.MODULUS g.B.BlockMatrix.matrix) c.loop-b.b
-    (map f c.args.state.now) (map f c.loop-b.state) _ _ _ _ _ _ _ _ (rw length-map within) c.loop-b.invariant
-    read.w0 read.w1 read.w2 read.w3 made.w0 made.w1 made.w2 made.w3
+    rw (
+      c.write_block.ensures,
+      made.w0,
+      made.w1,
+      made.w2,
+      made.w3,
+      read.w0,
+      read.w1,
+      read.w2,
+      read.w3,
+      c.loop-b.invariant,
+    )
+    (block-more (row_times g.F.Field.MODULUS g.B.BlockMatrix.matrix) c.loop-b.b (map f c.args.state.now)
+    (rw length-map within))

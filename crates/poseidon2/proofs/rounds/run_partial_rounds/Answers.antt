@@ -11,6 +11,8 @@ loop-constant-preserved g c =
     let constants = c.args.constants.now in
     let i = c.loop-constant.constant-index in
     let within : i < length constants = omega arith in
-    partial-more g.F.Field.MODULUS (g.S.SBox.image c.args.alpha) (internal_matrix (map f c.args.diagonal.now))
-    (map f constants) _ _ _ i _ (rw length-map within) c.loop-constant.invariant
-    (read f constants i c.constant-item.result within c.constant-item.is) c.apply_partial_round.ensures
+    let constant = c.constant-item.result in
+    rw (c.apply_partial_round.ensures, c.loop-constant.invariant)
+    (partial-more g.F.Field.MODULUS (g.S.SBox.image c.args.alpha) (internal_matrix (map f c.args.diagonal.now))
+    (map f constants) (map f c.args.state.now) i (f constant) (rw length-map within)
+    (read f constants i constant within c.constant-item.is))

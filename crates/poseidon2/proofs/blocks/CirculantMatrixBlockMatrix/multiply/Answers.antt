@@ -1,4 +1,4 @@
-use Rattle.std.proofs.Common.{◌≡◌, ◌+◌, ◌*◌, refl, arith}
+use Rattle.std.proofs.Common.{◌≡◌, ℕ, ◌+◌, ◌*◌, ◌%◌, ◌∙◌, ap, refl, arith}
 use Rattle.poseidon2.proofs.Fours.{sum-Is, double-Is, last-Is}
 use Rattle.poseidon2.proofs.blocks.CirculantMatrixBlockMatrix.multiply.Goals as goal
 
@@ -21,9 +21,10 @@ returns g c =
     let row1 : n + x1 + (x2 + x2) ≡ 1 * x0 + (2 * x1 + (3 * x2 + (1 * x3 + 0))) = omega arith in
     let row2 : n + x3 + (x2 + x3) ≡ 1 * x0 + (1 * x1 + (2 * x2 + (3 * x3 + 0))) = omega arith in
     let row3 : n + x3 + (x0 + x0) ≡ 3 * x0 + (1 * x1 + (1 * x2 + (2 * x3 + 0))) = omega arith in
+    let reduced = λ (n : ℕ). n % p in
     record {
-      w0 = last-Is p _ _ _ (n + x1) (x0 + x1) _ c.add-w0.ensures all1 front row0;
-      w1 = last-Is p _ _ _ (n + x1) (x2 + x2) _ c.add-w1.ensures all1 twice2 row1;
-      w2 = last-Is p _ _ _ (n + x3) (x2 + x3) _ c.add-w2.ensures all3 back row2;
-      w3 = last-Is p _ _ _ (n + x3) (x0 + x0) _ c.add-w3.ensures all3 twice0 row3;
+      w0 = last-Is p _ _ _ (n + x1) (x0 + x1) c.add-w0.ensures all1 front ∙ ap reduced row0;
+      w1 = last-Is p _ _ _ (n + x1) (x2 + x2) c.add-w1.ensures all1 twice2 ∙ ap reduced row1;
+      w2 = last-Is p _ _ _ (n + x3) (x2 + x3) c.add-w2.ensures all3 back ∙ ap reduced row2;
+      w3 = last-Is p _ _ _ (n + x3) (x0 + x0) c.add-w3.ensures all3 twice0 ∙ ap reduced row3;
     }

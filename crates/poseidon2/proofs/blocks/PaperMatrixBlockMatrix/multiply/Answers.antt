@@ -1,4 +1,4 @@
-use Rattle.std.proofs.Common.{◌≡◌, ◌+◌, ◌*◌, refl, arith}
+use Rattle.std.proofs.Common.{◌≡◌, ℕ, ◌+◌, ◌*◌, ◌%◌, ◌∙◌, ap, refl, arith}
 use Rattle.poseidon2.proofs.Fours.{sum-Is, double-Is, last-Is}
 use Rattle.poseidon2.proofs.blocks.PaperMatrixBlockMatrix.multiply.Goals as goal
 
@@ -29,9 +29,10 @@ returns g c =
     let row1 : n2 ≡ 4 * x0 + (6 * x1 + (1 * x2 + (1 * x3 + 0))) = omega arith in
     let row2 : x1 + x1 + (x2 + x3) + n3 ≡ 1 * x0 + (3 * x1 + (5 * x2 + (7 * x3 + 0))) = omega arith in
     let row3 : n3 ≡ 1 * x0 + (1 * x1 + (4 * x2 + (6 * x3 + 0))) = omega arith in
+    let reduced = λ (n : ℕ). n % p in
     record {
-      w0 = last-Is p _ _ _ (x3 + x3 + (x0 + x1)) n2 _ c.add-w0.ensures t3 w1 row0;
-      w1 = last-Is p _ _ _ (n0 + n0) (x1 + x1 + (x2 + x3)) _ c.add-w1.ensures four0 t2 row1;
-      w2 = last-Is p _ _ _ (x1 + x1 + (x2 + x3)) n3 _ c.add-w2.ensures t2 w3 row2;
-      w3 = last-Is p _ _ _ (n1 + n1) (x3 + x3 + (x0 + x1)) _ c.add-w3.ensures four1 t3 row3;
+      w0 = last-Is p _ _ _ (x3 + x3 + (x0 + x1)) n2 c.add-w0.ensures t3 w1 ∙ ap reduced row0;
+      w1 = last-Is p _ _ _ (n0 + n0) (x1 + x1 + (x2 + x3)) c.add-w1.ensures four0 t2 ∙ ap reduced row1;
+      w2 = last-Is p _ _ _ (x1 + x1 + (x2 + x3)) n3 c.add-w2.ensures t2 w3 ∙ ap reduced row2;
+      w3 = last-Is p _ _ _ (n1 + n1) (x3 + x3 + (x0 + x1)) c.add-w3.ensures four1 t3 ∙ ap reduced row3;
     }

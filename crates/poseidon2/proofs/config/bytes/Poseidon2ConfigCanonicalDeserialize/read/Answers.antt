@@ -1,4 +1,4 @@
-use Rattle.std.proofs.Common.{◌∙◌, ap, sym, inr}
+use Rattle.std.proofs.Common.{ap, inr}
 use Rattle.std.proofs.lemmas.Result.{IfOk-from_err}
 use Rattle.ark_base.specs.Reading.{reading_outcome}
 use Rattle.ark_base.proofs.Refusals.{passed_on}
@@ -35,8 +35,7 @@ returns-in-Ok g c =
     record {
       answer = ap reading_outcome (parameters_read f.MODULUS f.MODULUS_BIT_SIZE canonical.view canonical.reads
           g.F.Valued.value is c.args.bytes.now _ _ c.in-Ok.parameters read.answer
-          (rw (first, partial, last, diagonal)
-          (sym c.new.ensures ∙ c.in-Ok.is)));
+          (rw (first, partial, last, diagonal, ← c.new.ensures) c.in-Ok.is));
       within = read.within;
     }
 
@@ -58,7 +57,6 @@ returns-in-Err g c =
     record {
       answer = inr (ap reading_outcome (parameters_unfit f.MODULUS f.MODULUS_BIT_SIZE canonical.view canonical.reads
           g.F.Valued.value is c.args.bytes.now _ _ c.in-Err.field-0 read.answer
-          (rw (first, partial, last, diagonal)
-          (sym c.new.ensures ∙ c.in-Err.is))));
+          (rw (first, partial, last, diagonal, ← c.new.ensures) c.in-Err.is)));
       within = tt;
     }
