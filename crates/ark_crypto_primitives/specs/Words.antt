@@ -25,6 +25,7 @@ pub use Rattle.jubjub.specs.Theorems.{ElementsAreCoordinates, HasOrder, HasPrime
 pub use Rattle.jubjub.specs.Theorems.{QuotientsAreRight}
 -- Ed25519
 pub use Rattle.ed25519.specs.Signatures.{IsSignature, key_of as ed25519_key, signature_of as ed25519_signature}
+pub use Rattle.ed25519.specs.SigningKeys.{seed_of}
 -- maps
 pub use Rattle.merkle_map.specs.Map.{Entry as MapEntry, HaveSame, IsMap, MapHashes, put as map_put, root_of_map as map_root}
 pub use Rattle.merkle_map.specs.Map.{value_at as map_value, without as map_without}
@@ -46,6 +47,9 @@ pub use Rattle.poseidon_grain.specs.Grain.{below_drawn, list_drawn, remainder_dr
 pub use Rattle.poseidon_grain.specs.Constants.{AreGenerated, AreParameters, Instance, IsCauchy, IsMatrixRefused, instance_of}
 pub use Rattle.poseidon_grain.specs.Constants.{constants_drawn, counts_fit, xs_drawn, ys_drawn}
 pub use Rattle.poseidon_grain.specs.Defaults.{Counts, baby_bear_rounds, bls12_381_fr_counts, circom_rounds}
+pub use Rattle.poseidon2.specs.Compression.{poseidon2_hash, setup_refused}
+pub use Rattle.poseidon2.specs.Matrices.{block_circulant, external_matrix, internal_matrix}
+pub use Rattle.poseidon2.specs.Permutation.{are_wide, is_width, lawful_poseidon2, poseidon2_permutation}
 -- hashes
 pub use Rattle.ark_crh.specs.Ahead.{HashesAhead, lent, lent_couples, of_bytes, of_couple, sure}
 pub use Rattle.ark_poseidon.specs.Digest.{digest_of_two}
@@ -100,3 +104,9 @@ pub use Rattle.merkle_log.specs.Received.{ShowsFront, ShowsLogLeaf, consistency_
 pub use Rattle.merkle_log.specs.Received.{received_consistency, received_inclusion}
 pub use Rattle.merkle_log.specs.Stored.{IsStored, row_at}
 pub use Rattle.merkle_log.specs.Verdict.{consistency_verdict, inclusion_verdict, leaf_verdict}
+-- incremental trees
+pub use Rattle.ark_crypto_primitives.specs.NodeLevels.{leveled_hash}
+pub use Rattle.incremental_trees.specs.Incremental.{HoldsLeaves, IncrementalValue, RefusesComplete, RefusesEmptyTree}
+pub use Rattle.incremental_trees.specs.Incremental.{RefusesLeaf}
+pub use Rattle.incremental_trees.specs.KeptPaths.{AreCompleted, CompletedValue, IsKeptPath, KeptPathValue, rising_verdict}
+pub use Rattle.incremental_trees.specs.Nodes.{LevelHash, depth_root, level_hash, nodes_beside, padded_leaves, rising_root}

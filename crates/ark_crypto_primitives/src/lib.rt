@@ -5,6 +5,7 @@ mod ed25519_scheme;
 mod empty_log;
 mod jubjub_hashes;
 mod log_tree;
+mod node_levels;
 
 pub use ark_absorb::{collect_sponge_bytes, collect_sponge_field_elements};
 pub use ark_base::error::{Error, Refusal, SerializationError};
@@ -111,6 +112,14 @@ pub mod signature {
     }
 }
 
+/// Shamir's secret sharing.
+pub mod secret_shares {
+    pub use ark_signatures::secret_shares::{
+        NoSecret, NoShare, Share, each_secret_is_possible, one_polynomial_each, recover,
+        responses_are_shares, share_at,
+    };
+}
+
 /// Hashes of one input and of two.
 pub mod crh {
     pub use ark_crh::{ArrayHash, CRHScheme, PlainSha256, TwoToOneCRHScheme};
@@ -209,6 +218,7 @@ pub mod merkle_tree {
 
     /// Trees of a fixed depth whose last leaves are empty, of which one node a level is stored.
     pub mod incremental {
+        pub use crate::node_levels::NodeLevels;
         pub use incremental_trees::{
             Completed, EachLevel, IncrementalTree, KeptPath, LevelHasher, TreeRefusal,
             verify_rising,
