@@ -67,7 +67,9 @@ pub use Rattle.ark_schemes.specs.PedersenCommitments.{AreMade, AreOf, IsUnion, e
 pub use Rattle.ark_schemes.specs.PedersenCommitments.{windows_commitment}
 pub use Rattle.ark_signatures.specs.ElGamal.{decrypted, encrypted}
 pub use Rattle.ark_signatures.specs.Schnorr.{IsValid, challenge_of, first_nonce, highest_first, multiplier, numbers_of}
-pub use Rattle.ark_signatures.specs.Schnorr.{randomised, randomised_key, signed, verified}
+pub use Rattle.ark_signatures.specs.Schnorr.{randomised, randomised_key, response, signed, verified}
+pub use Rattle.ark_signatures.specs.SecretShares.{AreSharesOf, GiveSecret, IsWhyNoSecret, numbers_of_shares}
+pub use Rattle.ark_signatures.specs.SecretShares.{polynomial_value, responses, share_places, value_at_zero}
 -- trees, paths and multi-proofs
 pub use Rattle.ark_merkle.specs.Batch.{with_each_leaf, with_leaves}
 pub use Rattle.ark_merkle.specs.Binding.{MatchesVerdict, binding_in}
