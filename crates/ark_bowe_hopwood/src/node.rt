@@ -6,7 +6,7 @@ ghost use Rattle.ark_base.specs.Outcome.{AnswersBy};
 ghost use Rattle.ark_groups.specs.Bits.{bits_of_number};
 ghost use Rattle.ark_pedersen.specs.Pedersen.{lists_in, seen_by};
 ghost use Rattle.ark_bowe_hopwood.specs.BoweHopwood.{AreDrawnSegments, segments_outcome};
-ghost use Rattle.ark_bowe_hopwood.specs.Nodes.{node_bits, node_hash};
+ghost use Rattle.ark_bowe_hopwood.specs.Nodes.{leveled_hash, node_bits, node_hash};
 
 use crate::bits::hash_bits;
 use crate::{CRH, Parameters};
@@ -107,13 +107,11 @@ where
 
     type Parameters = NodeParameters<G>;
 
-    ghost evaluated = { λ parameters left right.
-        let hash = node_hash G.group G.x W.Window (lists_in parameters.generators.items) in
-        seen_by (λ x. x ∷ []) (hash parameters.level (get_or left 0 0) (get_or right 0 0)) };
+    ghost evaluated = { λ parameters.
+        leveled_hash G.group G.x W.Window (lists_in parameters.generators.items) parameters.level };
 
-    ghost compressed = { λ parameters left right.
-        let hash = node_hash G.group G.x W.Window (lists_in parameters.generators.items) in
-        seen_by (λ x. x ∷ []) (hash parameters.level (get_or left 0 0) (get_or right 0 0)) };
+    ghost compressed = { λ parameters.
+        leveled_hash G.group G.x W.Window (lists_in parameters.generators.items) parameters.level };
 
     ghost setup_outcome = { segments_outcome G.ScalarField.MODULUS G.draw W.Window };
 
@@ -179,12 +177,8 @@ where
         leveled-alike (made.0 ∙ sym also.0) (made.1.1 ∙ sym also.1.1) };
 
     ghost evaluated_same = { λ p q same.
-        ap (λ seen left right. seen_by (λ x. x ∷ [])
-        (node_hash G.group G.x W.Window seen.lists seen.level (get_or left 0 0)
-        (get_or right 0 0))) same };
+        ap (λ seen. leveled_hash G.group G.x W.Window seen.lists seen.level) same };
 
     ghost compressed_same = { λ p q same.
-        ap (λ seen left right. seen_by (λ x. x ∷ [])
-        (node_hash G.group G.x W.Window seen.lists seen.level (get_or left 0 0)
-        (get_or right 0 0))) same };
+        ap (λ seen. leveled_hash G.group G.x W.Window seen.lists seen.level) same };
 }

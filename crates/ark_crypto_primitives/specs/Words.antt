@@ -57,6 +57,7 @@ pub use Rattle.ark_pedersen.specs.Pedersen.{AreDrawn, AreGeneratorsOf, bits_of_b
 pub use Rattle.ark_pedersen.specs.Pedersen.{lists_in, of_halves, pedersen_hash, seen_by, window_elements, windows_hash}
 pub use Rattle.ark_bowe_hopwood.specs.BoweHopwood.{AreDrawnSegments, AreSegmentsOf, TellsChunksApart, bowe_hopwood_hash}
 pub use Rattle.ark_bowe_hopwood.specs.BoweHopwood.{segments_hash, segments_outcome}
+pub use Rattle.ark_bowe_hopwood.specs.Nodes.{leveled_hash}
 pub use Rattle.ark_schemes.specs.Blake2s.{blake2s, blake2s_with}
 pub use Rattle.ark_schemes.specs.Hashers.{AloneHoldsText, HoldsText}
 pub use Rattle.ark_trees.specs.Rfc6962.{entry_hash, log_hashes, tree_hash_of_entries, node_hash}
@@ -107,7 +108,6 @@ pub use Rattle.merkle_log.specs.Received.{received_consistency, received_inclusi
 pub use Rattle.merkle_log.specs.Stored.{IsStored, row_at}
 pub use Rattle.merkle_log.specs.Verdict.{consistency_verdict, inclusion_verdict, leaf_verdict}
 -- incremental trees
-pub use Rattle.ark_crypto_primitives.specs.NodeLevels.{leveled_hash}
 pub use Rattle.incremental_trees.specs.Incremental.{HoldsLeaves, IncrementalValue, RefusesComplete, RefusesEmptyTree}
 pub use Rattle.incremental_trees.specs.Incremental.{RefusesLeaf}
 pub use Rattle.incremental_trees.specs.KeptPaths.{AreCompleted, CompletedValue, IsKeptPath, KeptPathValue, rising_verdict}

@@ -4,7 +4,7 @@ ghost use Rattle.std.specs.Prelude.{◌≡◌, ◌∷◌, [], get_or};
 ghost use Rattle.ark_pedersen.specs.Pedersen.{lists_in};
 ghost use Rattle.ark_pedersen.specs.Laws.Pedersen.{seen-decided};
 ghost use Rattle.ark_bowe_hopwood.specs.Laws.Nodes.{node-decided};
-ghost use Rattle.ark_crypto_primitives.specs.NodeLevels.{leveled_hash};
+ghost use Rattle.ark_bowe_hopwood.specs.Nodes.{leveled_hash};
 
 use ark_base::error::{Error, Refusal};
 use ark_base::serialize::DigestItem;

@@ -9,7 +9,7 @@ use ark_base::error::Error;
 use ark_base::serialize::DigestItem;
 use std::alloc::Global;
 
-// Returns a bit of a key, counted from the highest one of its first byte.
+/// Returns a bit of a key, counted from the highest one of its first byte.
 pub fn bit_of(key: &[u8; 32], i: usize) -> bool
     requires { i < 256 }
     ensures { result ≡ bit_in i key.now }
@@ -29,7 +29,7 @@ pub fn has_bit(key: &[u8; 32], level: usize, bit: bool) -> bool
     }
 }
 
-// Returns whether two keys are the same.
+/// Returns whether two keys are the same.
 pub fn are_same_keys(a: &[u8; 32], b: &[u8; 32]) -> bool
     ensures { result ≡ bytes_eq a.now b.now }
 {

@@ -26,6 +26,7 @@ pub mod verify;
 
 pub use hasher::{MapHasher, MapViews};
 pub use kept::KeptMap;
+pub use key::{are_same_keys, bit_of};
 pub use part::{Entry, HIDDEN};
 pub use proof::{End, KeyProof};
 pub use sha256::Sha256Map;
