@@ -19,9 +19,10 @@ use crate::hasher::{MapHasher, MapViews};
 use crate::key::are_same_digests;
 use crate::part::Part;
 use crate::proof::KeyProof;
+use crate::together::FEW;
 use crate::top::{
-    Top, climb_top, digest_of_top, find_top, prune_top, push_rows_of_top, put_top, remove_top,
-    write_top,
+    Top, climb_top, digest_of_top, fill_top, find_top, forget_top, prune_top, push_rows_of_top,
+    put_top, remove_top, write_top,
 };
 use ark_base::error::Error;
 use ark_base::serialize::DigestItem;
@@ -181,6 +182,47 @@ impl<D: DigestItem> MapTree<D> {
     {
         let digest = self.root(alloc, hasher)?;
         Ok(are_same_digests(&digest, root))
+    }
+
+    /// Acts as `root`, and hashes the nodes of one height together: for a proof of many keys, or a store. Meanwhile the tree
+    /// keeps the digest of each fork.
+    pub fn root_together<H: MapViews<Input = [u8; 32], Output = D>>(
+        &mut self,
+        alloc: Global,
+        hasher: &MapHasher<H>,
+    ) -> Result<D, Error>
+        ensures digest { AnswersBy D.numbers (shape_digest (H.hashes hasher.now) self.old) result }
+
+        // It is the root of each map that the tree shows.
+        ensures maps { (entries : List EntryOf) → Shows (H.hashes hasher.now) 0 self.old entries
+            → root_of_map (H.hashes hasher.now) entries
+            ≡ shape_digest (H.hashes hasher.now) self.old }
+        ensures store { IsRootOf (H.hashes hasher.now) self.old }
+        ensures kept { self.new ≡ self.old }
+    {
+        let digest = fill_top(alloc, hasher, &mut self.top, FEW);
+        forget_top(&mut self.top);
+        digest
+    }
+
+    /// Acts as `has_root`, and hashes the nodes of one height together, as `root_together`.
+    pub fn has_root_together<H: MapViews<Input = [u8; 32], Output = D>>(
+        &mut self,
+        alloc: Global,
+        hasher: &MapHasher<H>,
+        root: &D,
+    ) -> Result<bool, Error>
+        ensures answer { Answers (has_digest (H.hashes hasher.now) (D.numbers root.now) self.old)
+            result }
+
+        // It shows each map with this root, or below some bits the tree and the map's own tree have two different nodes with
+        // one hash.
+        ensures bound { IfOk result (λ accepted. accepted ≡ true
+            → BindsTree (H.hashes hasher.now) (D.numbers root.now) self.old) }
+        ensures kept { self.new ≡ self.old }
+    {
+        let own = self.root_together(alloc, hasher)?;
+        Ok(are_same_digests(&own, root))
     }
 
     // Copies the tree without what no key's way meets, or with the tops of that which removals need.
