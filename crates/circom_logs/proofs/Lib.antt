@@ -1,4 +1,5 @@
 pub mod Changing
 pub mod Closed
+pub mod Fronts
 pub mod Lists
 pub mod Outcomes

@@ -68,8 +68,8 @@ impl<'a> TreeHasher<[u8; 32], [u8; 32]> for CircomNodes<'a> {
         }
     }
 
-    fn bottom(&self, _alloc: Global, left: &[u8; 32], right: &[u8; 32]) -> Result<[u8; 32], Error> {
-        self.table.hash_two(left, right)
+    fn bottom(&self, alloc: Global, left: &[u8; 32], right: &[u8; 32]) -> Result<[u8; 32], Error> {
+        self.upper(alloc, left, right)
     }
 
     fn upper(&self, _alloc: Global, left: &[u8; 32], right: &[u8; 32]) -> Result<[u8; 32], Error> {
