@@ -17,6 +17,8 @@ void secret_encrypted(uint8_t part[64], const uint8_t randomness[32]);
 void secret_decrypted(uint8_t message[64], const uint8_t secret[32]);
 void secret_signature(uint8_t signature[64], const uint8_t seed[32]);
 int32_t secret_same_digest(const uint8_t a[32], const uint8_t b[32]);
+void secret_key_word(uint8_t word[44], const uint8_t bytes[33]);
+int32_t secret_key_bytes(uint8_t bytes[33], const uint8_t word[44]);
 
 static const uint8_t ONE[32] = {1};
 
@@ -69,6 +71,32 @@ static int same_digest(void) {
     return answers[0] == 1 && answers[1] == 0 && answers[2] == 0;
 }
 
+/* The word of a key of all values of symbols is that of RFC 4648, section 4, and the key's alone. */
+static int key_text(void) {
+    static const char WORD[] = "ABCDEFGHIJKLMNOPQRSTUVWXYZabcdefghijklmnopqr", OTHER[] = "stuvwxyz0123456789+/AAAA====AAAA*AAA\377AAAAAAA";
+    uint8_t bytes[33], again[33], word[44];
+    int32_t answers[2];
+    memcpy(word, WORD, 44);
+    SECRET(word);
+    answers[0] = secret_key_bytes(bytes, word);
+    secret_key_word(word, bytes);
+    PUBLIC(word);
+    memcpy(word + 20, OTHER, 24);
+    SECRET(word);
+    answers[1] = secret_key_bytes(again, word);
+    secret_key_word(word, again);
+    PUBLIC(word);
+    PUBLIC(answers);
+    if (answers[0] != 1 || answers[1] != 1 || memcmp(word, WORD, 20) != 0 || memcmp(word + 20, OTHER, 24) != 0)
+        return 0;
+    memcpy(word, OTHER, 44);
+    SECRET(word);
+    answers[0] = secret_key_bytes(again, word);
+    PUBLIC(answers);
+    PUBLIC(bytes);
+    return answers[0] == 0 && bytes[0] == 0 && bytes[1] == 16 && bytes[2] == 131;
+}
+
 /* 9 - 2 3 = 3 */
 static int response(void) {
     uint8_t nonce[32] = {9}, secret[32] = {2}, challenge[32] = {3}, answer[32], three[32] = {3};
@@ -101,6 +129,7 @@ static const struct {
     {"decrypted", decrypted},
     {"signature", signature},
     {"same_digest", same_digest},
+    {"key_text", key_text},
     {"planted_branch", planted_branch},
 };
 

@@ -1,4 +1,4 @@
-//! Calls over Jubjub, by a key of Ed25519 and on digests, exported to C so that `bindings/secrets-test` runs their machine code with the secrets marked as
+//! Calls over Jubjub, by a key of Ed25519, on digests and on the text of a key, exported to C so that `bindings/secrets-test` runs their machine code with the secrets marked as
 //! undefined. They stand in no library that is handed out, and promise nothing beyond what they call.
 #![tactic(auto)]
 
@@ -7,6 +7,7 @@ use ark_groups::ff::Field;
 use ark_schemes::prf::is_same_digest;
 use ed25519::SigningKey;
 use jubjub::{Jubjub, JubjubFr};
+use signed_notes::symbols::{bytes_of, word_of};
 use std::alloc::Global;
 
 fn scalar(bytes: &[u8; 32]) -> JubjubFr {
@@ -72,4 +73,18 @@ pub extern "C" fn secret_signature(signature: &mut [u8; 64], seed: &[u8; 32]) {
 #[unsafe(no_mangle)]
 pub extern "C" fn secret_same_digest(a: &[u8; 32], b: &[u8; 32]) -> i32 {
     is_same_digest(a.as_slice(), b.as_slice()) as i32
+}
+
+/// Writes the Base64 of the 33 bytes of a key.
+#[unsafe(no_mangle)]
+pub extern "C" fn secret_key_word(word: &mut [u8; 44], bytes: &[u8; 33]) {
+    *word = word_of(bytes);
+}
+
+/// Writes the 33 bytes of which a word is the Base64, and returns 1 where it is that of any, else 0.
+#[unsafe(no_mangle)]
+pub extern "C" fn secret_key_bytes(bytes: &mut [u8; 33], word: &[u8; 44]) -> i32 {
+    let (own, is_whole) = bytes_of(word);
+    *bytes = own;
+    is_whole as i32
 }

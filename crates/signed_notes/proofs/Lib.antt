@@ -14,3 +14,4 @@ pub mod Joined
 pub mod Known
 mod Pieces
 mod Listed
+pub mod SymbolGroups

@@ -67,9 +67,13 @@ abbrev pub spelled_by : List ℕ → List ℕ → List ℕ → Result Spelled Fa
 spelled_by name hash bytes = only_where (length bytes == 33) (algorithm_fault Key (get_or bytes 0 0))
     (Ok (record { name = name; hash = hash; algorithm = get_or bytes 0 0; bytes = drop 1 bytes }))
 
+-- the key of a name and of a word of Base64, by the digits of its hash
+abbrev pub spelled_word : List ℕ → List ℕ → List ℕ → Result Spelled Fault
+spelled_word name hash word = bytes_in word >>= spelled_by name hash
+
 -- the key of a name, and of two parts behind it
 abbrev pub spelled_behind : List ℕ → List ℕ × List ℕ → Result Spelled Fault
-spelled_behind name parts = only_where (is_name name) Name (bytes_in parts.1 >>= spelled_by name parts.0)
+spelled_behind name parts = only_where (is_name name) Name (spelled_word name parts.0 parts.1)
 
 -- the key of a name and of what stands behind the plus sign that ends it
 abbrev pub spelled_from : List ℕ × List ℕ → Result Spelled Fault

@@ -5,7 +5,7 @@ ghost use Rattle.std.specs.Str.{bytes_eq};
 ghost use Rattle.ed25519.specs.Signatures.{key_of};
 ghost use Rattle.hex.specs.Hex.{encode_lower};
 ghost use Rattle.signed_notes.specs.Faults.{NoteGivesBy};
-ghost use Rattle.signed_notes.specs.Keys.{algorithm_fault, as_it_stands, cosignature_byte, ed25519_byte, is_byte, is_known, key_hash, key_parts, key_text, private, public_parts, read_key, read_private, spelled_behind, spelled_by, spelled_in, write_key};
+ghost use Rattle.signed_notes.specs.Keys.{algorithm_fault, as_it_stands, cosignature_byte, ed25519_byte, is_byte, is_known, key_hash, key_parts, key_text, private, public_parts, read_key, read_private, spelled_behind, spelled_by, spelled_in, spelled_word, write_key};
 ghost use Rattle.signed_notes.specs.Verifying.{hash_of};
 ghost use Rattle.signed_notes.specs.Views.{algorithm_byte, cosigner_parts, seed_parts, signer_parts, key_spelled, verifier_parts};
 ghost use Rattle.signed_notes.specs.declared.fault.Fault.TheVariants.{Memory};
@@ -13,8 +13,8 @@ ghost use Rattle.signed_notes.specs.declared.fault.Fault.TheVariants.{Memory};
 use crate::cutting::cut;
 use crate::fault::Fault;
 use crate::note::bytes_in;
+use crate::symbols::{bytes_of, word_of};
 use crate::texts::{is_name, name_of};
-use base64::engine::general_purpose::STANDARD;
 use ed25519::public_key;
 use sha2::{Digest, Sha256};
 use std::alloc::Global;
@@ -145,6 +145,26 @@ fn spelled_by<'a>(name: &'a str, hash: &'a [u8], decoded: &[u8]) -> Result<KeyTe
     })
 }
 
+// The key of a name, of the digits of its hash, and of a word of Base64. A word of 33 bytes is read without a branch on what it spells.
+fn spelled_word<'a>(
+    alloc: Global,
+    name: &'a str,
+    hash: &'a [u8],
+    word: &[u8],
+) -> Result<KeyText<'a>, Fault>
+    ensures { NoteGivesBy key_spelled (spelled_word name.now hash.now word.now) result }
+{
+    if word.len() == 44 {
+        let mut symbols = [0; 44];
+        symbols.copy_from_slice(word);
+        let (bytes, is_whole) = bytes_of(&symbols);
+        if is_whole {
+            return spelled_by(name, hash, &bytes);
+        }
+    }
+    spelled_by(name, hash, &bytes_in(alloc, word)?)
+}
+
 // The key of a name, and of two parts behind it.
 fn spelled_behind<'a>(
     alloc: Global,
@@ -155,7 +175,7 @@ fn spelled_behind<'a>(
     ensures { NoteGivesBy key_spelled (spelled_behind name.now (hash.now, word.now)) result }
 {
     match name_of(name) {
-        Some(name) => spelled_by(name, hash, &bytes_in(alloc, word)?),
+        Some(name) => spelled_word(alloc, name, hash, word),
         None => Err(Fault::Name),
     }
 }
@@ -236,14 +256,13 @@ fn write_private(
         return Err(Fault::Name);
     }
     let mut out = Vec::from_slice(alloc, &PRIVATE)?;
-    push_key(&mut out, alloc, name, algorithm, &public_key(seed), seed)?;
+    push_key(&mut out, name, algorithm, &public_key(seed), seed)?;
     Ok(out)
 }
 
 // Writes the text of a key behind other bytes.
 fn push_key(
     out: &mut Vec<u8>,
-    alloc: Global,
     name: &str,
     algorithm: u8,
     public: &[u8; 32],
@@ -253,15 +272,13 @@ fn push_key(
         OnOk result (out.new.items ≡ out.old.items ++ key_text (λ _. public.now) key) }
     ensures memory { IsOkUnless result Memory }
 {
-    let mut word = Vec::new(alloc);
-    word.push(algorithm)?;
-    word.extend_from_slice(bytes)?;
-    let spelled = STANDARD.encode(alloc, &word)?;
+    let mut told = [algorithm; 33];
+    told[1..].copy_from_slice(bytes);
     out.extend_from_slice(name.as_bytes())?;
     out.push(b'+')?;
     out.extend_from_slice(&digits_of(key_hash(name, algorithm, public)))?;
     out.push(b'+')?;
-    out.extend_from_slice(spelled.as_bytes())?;
+    out.extend_from_slice(&word_of(&told))?;
     Ok(())
 }
 
@@ -306,7 +323,6 @@ impl<'a> Verifier<'a> {
         let mut out = Vec::new(alloc);
         push_key(
             &mut out,
-            alloc,
             self.name,
             self.algorithm.byte(),
             &self.key,

@@ -16,6 +16,7 @@ mod opening;
 mod policy_fault;
 mod policy_file;
 mod policy_words;
+pub mod symbols;
 mod texts;
 mod verifying;
 mod writing;
