@@ -47,7 +47,7 @@ extern "C" {
  * Of several refusals it is the first that the call's comment names; E_MEMORY may come in place of any. */
 enum paxidore_answer {
     PAXIDORE_OK = 0,           /* shown, or done */
-    PAXIDORE_NOT_SHOWN = 1,    /* a proof or a tree was read, and it does not lead to the root */
+    PAXIDORE_NOT_SHOWN = 1,    /* a proof or a tree was read, and it does not lead to the root; or a map has nothing */
     PAXIDORE_E_MEMORY = -1,    /* a request for memory was refused */
     PAXIDORE_E_TRUNCATED = -2, /* the bytes of the proof end early */
     PAXIDORE_E_INVALID = -3,   /* the bytes are no proof for these indexes: of others, not canonical, or with more
@@ -63,7 +63,7 @@ enum paxidore_answer {
     PAXIDORE_E_NO_LOG = -11,   /* the file is no log's */
     PAXIDORE_E_SHORT = -12,    /* the file of a log ends before the digests of the log's size */
     PAXIDORE_E_HEAD = -13,     /* under the title of a log's file neither slot is whole; or its first sector is lost */
-    PAXIDORE_E_DAMAGED = -14,  /* the file of a log has a digest that was not stored, or states another root */
+    PAXIDORE_E_DAMAGED = -14,  /* a log's file has a digest that was not stored, or another root; memory holds no map */
     PAXIDORE_E_HIDDEN = -15,   /* the tree of a map hides what the call needs */
     PAXIDORE_E_POLICY = -16,   /* as the next three of paxidore_notes.h: the text is no policy */
     PAXIDORE_E_SIGNATURE = -17, /* a signature that names a key is none by it */

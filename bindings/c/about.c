@@ -25,7 +25,7 @@ const char *paxidore_strerror(int32_t answer) {
     case PAXIDORE_E_NO_LOG: return "the file is no log";
     case PAXIDORE_E_SHORT: return "the file of the log ends early";
     case PAXIDORE_E_HEAD: return "the head of the log's file is damaged";
-    case PAXIDORE_E_DAMAGED: return "the file of the log is damaged";
+    case PAXIDORE_E_DAMAGED: return "the file of the log, or the memory of the map, is damaged";
     case PAXIDORE_E_HIDDEN: return "the tree of the map hides what is needed";
     case PAXIDORE_E_POLICY: return "the text is no policy";
     case PAXIDORE_E_SIGNATURE: return "a signature by a key does not hold";

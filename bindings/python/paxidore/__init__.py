@@ -14,7 +14,7 @@ Whoever has the root and the count checks them without the other leaves::
 
 ``sha256`` has the same calls for trees whose hashes are SHA-256 of a leaf, and of left followed by right. There are 2, 4, 8, 16 ..
 leaves in a tree. ``Tree`` keeps the digests of one in memory or in a file. ``Log`` is a log of any size, in memory or in a file, with
-the checks for its clients. ``Map`` is a map with one root, in memory or in a file, with proofs of what it has and has not.
+the checks for its clients. ``Map`` is a map with one root, in memory or in a file, with proofs of what it has and has not, ``KeptMap`` a larger one in memory.
 ``Transcript`` is Poseidon's duplex sponge over a field. ``blake2s_commit`` commits to a value that is
 shown later. ``ed25519`` signs and verifies. ``notes`` has signed checkpoints and receipts, and
 ``follow`` follows a log over HTTP. ``poseidon`` has circomlib's hash.
@@ -52,6 +52,7 @@ from ._library import (
 )
 from ._nodes import DamagedMap
 from .hashes import Blake2s, blake2s, blake2s_commit, blake2s_opens, cpu, sha256_digest, version
+from .kept_map import KeptMap
 from .log import Log
 from .map import Map, MapVersion
 from .transcript import Field, Transcript, TranscriptError, parameters_bytes, ready_parameters
@@ -73,6 +74,7 @@ __all__ = [
     "HiddenTree",
     "IndexBeyondSize",
     "InvalidProof",
+    "KeptMap",
     "LengthsError",
     "Log",
     "Map",

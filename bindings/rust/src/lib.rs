@@ -28,6 +28,8 @@ mod log;
 #[cfg(feature = "std")]
 mod log_file;
 mod map;
+#[cfg(feature = "std")]
+mod map_memory;
 pub mod notes;
 pub mod poseidon;
 #[cfg_attr(not(feature = "std"), allow(dead_code))]
@@ -149,7 +151,7 @@ impl fmt::Display for Refused {
             Refused::NoLog => f.write_str("the file is no log"),
             Refused::Short => f.write_str("the file of the log ends early"),
             Refused::DamagedHead => f.write_str("the head of the log's file is damaged"),
-            Refused::Damaged => f.write_str("the file of the log is damaged"),
+            Refused::Damaged => f.write_str("the file of the log, or the memory of the map, is damaged"),
             Refused::Hidden => f.write_str("the tree of the map hides what is needed"),
             Refused::NoPolicy => f.write_str("the text is no policy"),
             Refused::BadSignature => f.write_str("a signature by a key does not hold"),

@@ -538,3 +538,91 @@ extern "C" {
         values_count: usize,
     ) -> i32;
 }
+
+/// Which map lies in memory, as the header's `struct paxidore_kept_map`.
+#[repr(C)]
+#[derive(Clone, Copy, Default)]
+pub struct KeptMap {
+    pub top: u64,
+    pub entries: usize,
+    pub forks: usize,
+}
+
+// Maps that are kept, whose lengths count entries and forks.
+extern "C" {
+    pub fn paxidore_kept_map_put(
+        map: *mut KeptMap,
+        map_entries: *mut u8,
+        map_entries_room: usize,
+        map_forks: *mut u8,
+        map_forks_room: usize,
+        key: *const u8,
+        value: *const u8,
+    ) -> i32;
+    pub fn paxidore_kept_map_remove(
+        map: *mut KeptMap,
+        map_entries: *mut u8,
+        map_entries_room: usize,
+        map_forks: *mut u8,
+        map_forks_room: usize,
+        key: *const u8,
+    ) -> i32;
+    pub fn paxidore_kept_map_root(
+        root: *mut u8,
+        map: *mut KeptMap,
+        map_entries: *mut u8,
+        map_entries_room: usize,
+        map_forks: *mut u8,
+        map_forks_room: usize,
+    ) -> i32;
+    pub fn paxidore_kept_map_get(
+        value: *mut u8,
+        map: *const KeptMap,
+        map_entries: *const u8,
+        map_entries_room: usize,
+        map_forks: *const u8,
+        map_forks_room: usize,
+        key: *const u8,
+    ) -> i32;
+    pub fn paxidore_kept_map_next(
+        next_key: *mut u8,
+        next_value: *mut u8,
+        map: *const KeptMap,
+        map_entries: *const u8,
+        map_entries_room: usize,
+        map_forks: *const u8,
+        map_forks_room: usize,
+        from: *const u8,
+    ) -> i32;
+    pub fn paxidore_kept_map_prove(
+        proof: *mut u8,
+        proof_room: usize,
+        proof_len: *mut usize,
+        map: *const KeptMap,
+        map_entries: *const u8,
+        map_entries_room: usize,
+        map_forks: *const u8,
+        map_forks_room: usize,
+        key: *const u8,
+    ) -> i32;
+    pub fn paxidore_kept_map_copy(
+        to_map: *mut KeptMap,
+        to_entries: *mut u8,
+        to_entries_room: usize,
+        to_forks: *mut u8,
+        to_forks_room: usize,
+        map: *const KeptMap,
+        map_entries: *const u8,
+        map_entries_room: usize,
+        map_forks: *const u8,
+        map_forks_room: usize,
+    ) -> i32;
+    pub fn paxidore_kept_map_check(
+        root: *mut u8,
+        map: *const KeptMap,
+        map_entries: *const u8,
+        map_entries_room: usize,
+        map_forks: *const u8,
+        map_forks_room: usize,
+    ) -> i32;
+}

@@ -85,8 +85,18 @@ fn agrees_with_the_definition() -> Result<(), Refused> {
         assert!(Map::verify(map.root(), &asked, value, &proof)?);
         assert!(!Map::verify(map.root(), &asked, Some(&[7; 32]), &proof)?);
         assert!(value.is_none() || !Map::verify(map.root(), &asked, None, &proof)?);
+        let next = entries.range(asked..).next();
+        assert_eq!(
+            map.first_from(&asked),
+            next.map(|(key, value)| (*key, *value))
+        );
+        assert_eq!(
+            Map::prove_by_tree(&map.witness(&[(asked, None)]), &asked)?,
+            proof
+        );
         if turn % 50 == 0 {
             assert_eq!(map.entries(), all);
+            assert!(map.check()?);
         }
     }
     Ok(())

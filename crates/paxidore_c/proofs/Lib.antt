@@ -6,3 +6,4 @@ pub mod Lengths
 pub mod MapLemmas
 pub mod Putting
 pub mod TwoInputs
+pub mod KeptMapCalls

@@ -5,13 +5,15 @@ use Rattle.ark_base.specs.Laws.Steps.{done_injective}
 use Rattle.ark_base.specs.Outcome.{Outcome, ◌>>=◌, AnswersBy}
 use Rattle.merkle_map.specs.Bytes.{invalid}
 use Rattle.merkle_map.specs.KeyProof.{ProofSeen, proof_verdict, IsKeyProofAccepted}
-use Rattle.merkle_map.specs.Map.{Digest, Key, key_bits}
+use Rattle.merkle_map.specs.Kept.{IsShownIn}
+use Rattle.merkle_map.specs.Map.{Digest, Entry, Key, key_bits, value_at}
 use Rattle.merkle_map.specs.ProofBytes.{proof_bytes, proof_spelled, IsProofOf32}
 use Rattle.merkle_map.specs.Sha256.{sha256_map}
 use Rattle.merkle_map.specs.Transition.{ChangeSeen, LeadsTo}
 use Rattle.merkle_map.specs.Tree.{Shape}
 use Rattle.merkle_map.proofs.ProofReading.{reads-proof-back}
 use Rattle.paxidore_calls.specs.Answer.{CallGivesBy}
+use Rattle.paxidore_c.specs.KeptMaps.{IsShownBy}
 use Rattle.paxidore_c.specs.Maps.{refusing_map, IsProvedBy}
 use Rattle.paxidore_calls.specs.declared.refused.Refused.{Refused}
 
@@ -44,6 +46,13 @@ proved-bytes items key given tree proof (Ok bytes) is accepts written sized =
     subst (λ o. IfOk o (IsProvedBy key (items bytes))) (sym is)
     (λ root value digest known. ap (λ o. o >>= proof_verdict sha256_map root key value) read
     ∙ accepts root value digest known)
+
+-- the bytes of a proof that a map's root accepts are accepted
+pub shown-bytes : (key : Key) (xs : List Entry) (proof : ProofSeen) (bytes : List ℕ) → IsShownIn sha256_map key xs proof
+    → proof_bytes sha256_map.nothing proof ≡ Ok bytes → IsProofOf32 proof → IsShownBy key xs bytes
+shown-bytes key xs proof bytes shown written sized = λ root is.
+    let read = reads-proof-back sha256_map.nothing bytes proof sized (bytes-spelled proof bytes written) in
+    ap (λ o. o >>= proof_verdict sha256_map root key (value_at key xs)) read ∙ shown root is
 
 -- what is said of the bytes that a call gives is said of the outcome
 pub given-said : {W : Type 0} (items : W → List ℕ) (outcome : Outcome (List ℕ)) (P : List ℕ → Type 0)

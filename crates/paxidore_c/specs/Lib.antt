@@ -1,4 +1,5 @@
 pub mod KeptAnswer
+pub mod KeptMaps
 pub mod Maps
 pub mod Notes
 pub mod Poseidon

@@ -1,7 +1,7 @@
 //! Several leaves of a kept tree that are changed at once. Nothing is allocated.
 
 ghost use Rattle.std.specs.List.{All, zip};
-ghost use Rattle.std.specs.Prelude.{◌≡◌, ◌≢◌, ◌<◌, ◌+◌, ◌/◌, ℕ, List, [], pos, true, length, map, get_or, IfOk, IfSome};
+ghost use Rattle.std.specs.Prelude.{◌≡◌, ◌≢◌, ◌<◌, ◌≤◌, ◌+◌, ◌/◌, ℕ, List, [], pos, true, length, map, get_or, IfOk, IfSome};
 ghost use Rattle.ark_merkle.specs.Batch.{puts};
 ghost use Rattle.ark_paths.specs.Pair.{Digest};
 ghost use Rattle.kept_tree.specs.KeptTree.{ChangesLeaves, KeepsTree, is_tree_length, kept_leaves};
@@ -13,8 +13,23 @@ use crate::hashing::in_hashing;
 use ark_crh::ArrayHash;
 use kept_tree::check::is_tree_length;
 use kept_tree::many::rehash_above;
-use paxidore_calls::leaves::{are_indexes, are_parts, next_leaf};
+use paxidore_calls::leaves::{are_indexes, are_parts, write_digests_from};
 use paxidore_calls::refused::Refused;
+
+// How many leaves are hashed at a time at most: as many digests lie on the stack.
+const RUN: usize = 64;
+
+// Puts digests to the places of the first of some indexes, one after the other.
+fn put_digests(digests: &mut [[u8; 32]], indexes: &[usize], run: &[[u8; 32]])
+    requires count { length run.now ≤ length indexes.now }
+    requires inside { All (λ index. index < length digests.old) indexes.now }
+    ensures long { length digests.new ≡ length digests.old }
+    ensures put { digests.new ≡ puts digests.old (zip indexes.now run.now) }
+{
+    'digests: for n in 0..run.len() {
+        digests[indexes[n]] = run[n];
+    }
+}
 
 // Writes the digests of leaves to the places of their indexes, one after the other.
 fn put_leaf_digests<H: ArrayHash>(
@@ -28,13 +43,14 @@ fn put_leaf_digests<H: ArrayHash>(
     ensures { IfSome (parts_by bytes.now lengths.now) (λ xs. digests.new
         ≡ puts digests.old (zip indexes.now (map H.leaf_hash xs))) }
 {
+    let mut run = [[0u8; 32]; RUN];
     let mut rest = bytes;
-    'leaves: for place in 0..lengths.len() {
-        let Some((leaf, behind)) = next_leaf(rest, lengths, place) else {
-            return;
-        };
-        digests[indexes[place]] = H::leaf(leaf);
-        rest = behind;
+    let mut place = 0;
+    'runs: while place < lengths.len() {
+        let count = (lengths.len() - place).min(RUN);
+        rest = write_digests_from::<H>(&mut run[..count], rest, lengths, place);
+        put_digests(digests, &indexes[place..], &run[..count]);
+        place += count;
     }
 }
 

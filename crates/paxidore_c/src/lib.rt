@@ -9,6 +9,7 @@ pub mod blake2s;
 pub mod file_calls;
 mod hashing;
 pub mod kept_changes;
+pub mod kept_maps;
 pub mod kept_proofs;
 pub mod kept_trees;
 pub mod log;

@@ -100,14 +100,25 @@ pub extern "C" fn paxidore_map_verify_absent(
     verdict_code(is_shown_in_map(alloc, root, key, None, proof))
 }
 
-// The digest of a tree. The only error is `OutOfMemory`.
-fn digest_of_tree(alloc: Global, tree: &MapTree<[u8; 32]>) -> Result<[u8; 32], Error>
-    ensures digest { Answers (shape_digest sha256_map tree.now) result }
-    ensures maps { (entries : List Entry) → Shows sha256_map 0 tree.now entries
-        → root_of_map sha256_map entries ≡ shape_digest sha256_map tree.now }
-    ensures store { IsRootOf sha256_map tree.now }
+// Trees of fewer bytes, as proofs of up to some four keys, are hashed one node behind the other.
+const MANY: usize = 2048;
+
+// The digest of a tree, of which many nodes are hashed together. The only error is `OutOfMemory`.
+fn digest_of_tree(
+    alloc: Global,
+    tree: &mut MapTree<[u8; 32]>,
+    are_many: bool,
+) -> Result<[u8; 32], Error>
+    ensures digest { Answers (shape_digest sha256_map tree.old) result }
+    ensures maps { (entries : List Entry) → Shows sha256_map 0 tree.old entries
+        → root_of_map sha256_map entries ≡ shape_digest sha256_map tree.old }
+    ensures store { IsRootOf sha256_map tree.old }
 {
-    tree.root(alloc, &Sha256Map::new())
+    let hasher = Sha256Map::new();
+    if are_many {
+        return tree.root_together(alloc, &hasher);
+    }
+    tree.root(alloc, &hasher)
 }
 
 // The digest of the tree that bytes are. Errors: those of `MapTree::from_bytes`; `OutOfMemory`.
@@ -116,8 +127,9 @@ fn root_of(alloc: Global, tree: &[u8]) -> Result<[u8; 32], Error>
     ensures maps { IfOk result (λ root. IfOk (tree_of_bytes tree.now) (IsRootOfAll root)) }
     ensures store { IfOk result (λ root. IfOk (tree_of_bytes tree.now) (IsRootOfStore root)) }
 {
-    let tree = MapTree::from_bytes(alloc, tree)?;
-    digest_of_tree(alloc, &tree)
+    let are_many = tree.len() >= MANY;
+    let mut tree = MapTree::from_bytes(alloc, tree)?;
+    digest_of_tree(alloc, &mut tree, are_many)
 }
 
 /// Writes the digest of the tree that bytes are to `root`.

@@ -88,7 +88,7 @@ fn root_of(alloc: Global, table: &[u8], elements: &[[u8; 32]]) -> Result<[u8; 32
     }
 }
 
-/// Writes the root of elements to `root`, in the hash of a table of two inputs.
+/// Writes the root of elements to `root`, in the hash of a table of two inputs. It keeps at most 64 digests at a time.
 ///
 /// Answers: 0; else the first of `E_COUNT` for a table of another count of inputs, `E_SIZE` for no elements, `E_INVALID` for an
 /// element that is not below the modulus; `E_MEMORY` in place of any. Before all these, a table that was cut or has no check sum is
