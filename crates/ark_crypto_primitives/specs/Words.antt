@@ -30,6 +30,9 @@ pub use Rattle.ed25519.specs.SigningKeys.{seed_of}
 pub use Rattle.merkle_map.specs.Map.{Entry as MapEntry, HaveSame, IsMap, MapHashes, put as map_put, root_of_map as map_root}
 pub use Rattle.merkle_map.specs.Map.{value_at as map_value, without as map_without}
 pub use Rattle.merkle_map.specs.Kept.{IsShownIn, MapValue}
+pub use Rattle.kept_map.specs.Changed.{HasForkRoom, HasPutRoom, IsOlder, KeepsSame}
+pub use Rattle.kept_map.specs.KeptMap.{KeepsMap, kept_hashes}
+pub use Rattle.kept_map.specs.Order.{HasNoneFrom, IsKeyBelow, IsNextEntry}
 pub use Rattle.merkle_map.specs.Shown.{BindsTree, Follows as MapFollows, FollowsBy as MapFollowsBy, Has as MapHas}
 -- what a sponge absorbs, and sponges
 pub use Rattle.ark_absorb.specs.Appending.{AppendsBytes, AppendsElements}

@@ -243,6 +243,8 @@ pub mod map {
         Change, End, Entry, HIDDEN, KeptMap, KeyProof, MapHasher, MapTree, MapViews, Sha256Map,
         change_from, rows_after, verify_absent, verify_other, verify_transition, verify_value,
     };
+    /// Maps in memory of the caller's.
+    pub use kept_map;
 }
 
 /// Configurations of trees, ready for use.

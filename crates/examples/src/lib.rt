@@ -6,6 +6,7 @@ pub mod directory;
 pub mod growing_log;
 pub mod jubjub_trees;
 pub mod log;
+pub mod map_in_memory;
 pub mod note_tree;
 pub mod own;
 pub mod plain;
