@@ -5,7 +5,7 @@ use Rattle.std.proofs.Math.Seq.{take-add}
 use Rattle.std.specs.List.{zip}
 use Rattle.ark_paths.specs.Pair.{Digest}
 use Rattle.ark_merkle.specs.Batch.{puts}
-use Rattle.paxidore_calls.proofs.Drawing.{IsDrawn, IsDrawnOf}
+use Rattle.paxidore_calls.proofs.Drawing.{IsDrawn}
 use Rattle.paxidore_calls.specs.Cut.{parts_by}
 
 -- one more change behind others

@@ -1,5 +1,5 @@
 -- What calls on kept maps answer, in the hashing of maps over SHA-256.
-use Rattle.std.specs.Prelude.{◌≡◌, ◌≢◌, ℤ, List, ℕ, Option, true, Ok, negsuc}
+use Rattle.std.specs.Prelude.{◌≡◌, ℤ, List, ℕ, true, Ok, negsuc}
 use Rattle.kept_map.specs.KeptMap.{KeepsMap}
 use Rattle.kept_map.specs.declared.head.Head.{Head}
 use Rattle.kept_map.specs.declared.head.MapFault.{MapFault}

@@ -9,7 +9,7 @@ use Rattle.paxidore_calls.specs.Answer.{refusal_code}
 use Rattle.paxidore_calls.specs.declared.refused.Refused.{Refused}
 use Rattle.paxidore_calls.specs.declared.refused.Refused.TheVariants.{Memory as NoMemory, Invalid, NoPolicy, BadSignature as Forged, Unsigned, OtherOrigin as OfAnother}
 use Rattle.signed_notes.specs.Checkpoints.{CheckpointParts}
-use Rattle.signed_notes.specs.Keys.{KeyParts, as_it_stands, ed25519_byte, write_key}
+use Rattle.signed_notes.specs.Keys.{as_it_stands, ed25519_byte, write_key}
 use Rattle.signed_notes.specs.Opening.{IsClosed, IsOpened, Policy}
 use Rattle.signed_notes.specs.PolicyFiles.{read_policy}
 use Rattle.signed_notes.specs.Verifying.{sign_checkpoint}

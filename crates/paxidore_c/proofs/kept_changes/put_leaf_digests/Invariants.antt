@@ -1,4 +1,4 @@
-use Rattle.std.proofs.Common.{◌≡◌, ◌≤◌, ◌-◌, ℕ, length}
+use Rattle.std.proofs.Common.{◌≡◌, ◌≤◌, ◌-◌, length}
 use Rattle.paxidore_calls.specs.Cut.{parts_by}
 use Rattle.paxidore_c.proofs.Putting.{PutUpTo}
 use Rattle.paxidore_c.proofs.kept_changes.put_leaf_digests.Given as goal
