@@ -118,7 +118,8 @@ module _ (h : MapHashes) (from_entries from_forks : List (List ℕ)) (k level : 
                 count,
                 at,
                 omega (arith, f),
-                subst (IsKeptFor (shape_digest h (Fork fork.at.left fork.at.right))) (sym digest) fork.at.kept,
+                subst (IsKeptFor (shape_digest h (Fork fork.at.left fork.at.right))) (sym digest)
+                    (subst (λ t. IsKeptFor (shape_digest h t) (kept_digest from_forks k)) fork.at.is fork.at.digest),
                 lies-kept h all last_forks forks count count (left_at forks count) fork.at.left (omega arith) before
                     (subst (λ n. LaidAt h all last_forks count n fork.at.left) (sym l) left_now),
                 lies-kept h all last_forks forks count count (right_at forks count) fork.at.right (omega arith) before

@@ -14,7 +14,7 @@ use Rattle.kept_map.specs.Parts.{part_number, IsThere}
 use Rattle.kept_map.specs.declared.nodes.Part.{Part}
 use Rattle.kept_map.specs.declared.nodes.Part.TheVariants.{Nothing, Entry as EntryPart, Fork as ForkPart}
 use Rattle.kept_map.proofs.Frames.{SameBelow, lies-behind, lies-kept, take-before}
-use Rattle.kept_map.proofs.Lying.{ForkAt, nothing-lies, entry-lies, fork-lies}
+use Rattle.kept_map.proofs.Lies.{IsForkOf, lies-nothing, lies-entry, lies-fork}
 
 -- an error that is passed on
 pub same_fault : {T : Type 0} (result : Result T MapFault) (passed fault : MapFault)
@@ -30,7 +30,7 @@ same_fault result passed fault is same =
 -- A fork lies at a place, and both sides below it.
 pub record ForkBelow (h : MapHashes) (entries forks : List (List ℕ)) (k level : ℕ) (tree : Shape) : Type 0 where
   pub bound : ℕ
-  pub at : ForkAt h entries forks bound k tree
+  pub at : IsForkOf h entries forks bound k tree
   pub below : level < 256
   pub on_left : LiesBelow h entries forks (left_at forks k) (level + 1) at.left
   pub on_right : LiesBelow h entries forks (right_at forks k) (level + 1) at.right
@@ -38,20 +38,17 @@ pub record ForkBelow (h : MapHashes) (entries forks : List (List ℕ)) (k level 
 module _ (h : MapHashes) (entries forks : List (List ℕ)) (number level : ℕ) (tree : Shape)
     (on : LiesBelow h entries forks number level tree) where
   pub nothing-below : 0 ≡ number → tree ≡ Empty
-  nothing-below is = nothing-lies h entries forks on.bound tree
-      (subst (λ n. LaidAt h entries forks on.bound n tree) (sym is) on.lies)
+  nothing-below is = lies-nothing h entries forks on.bound number tree (sym is) on.lies
 
   pub entry-below : (k : ℕ) → 2 * k + 1 ≡ number → tree ≡ One (entry_in entries k)
-  entry-below k is = (entry-lies h entries forks on.bound k tree
-      (subst (λ n. LaidAt h entries forks on.bound n tree) (sym is) on.lies)).1
+  entry-below k is = (lies-entry h entries forks on.bound number k tree (sym is) on.lies).1
 
   pub fork-below : (k : ℕ) → 2 * k + 2 ≡ number → ForkBelow h entries forks k level tree
   fork-below k is =
-      let at = fork-lies h entries forks on.bound k tree
-      (subst (λ n. LaidAt h entries forks on.bound n tree) (sym is) on.lies) in
+      let at = lies-fork h entries forks on.bound number k tree (sym is) on.lies in
       let stands : StandsAt on.bits (Fork at.left at.right) = subst (StandsAt on.bits) at.is on.stands in
       let long = on.long in
-      let inside : k ≤ length forks = let b = at.below in let i = on.inside in omega (arith, b, i) in
+      let inside : k ≤ length forks = let b = at.within in let i = on.inside in omega (arith, b, i) in
       record {
         bound = on.bound;
         at = at;

@@ -9,7 +9,7 @@ use Rattle.kept_map.specs.Parts.{part_number, IsThere}
 use Rattle.kept_map.specs.declared.nodes.Part.{Part}
 use Rattle.kept_map.specs.declared.nodes.Part.TheVariants.{Nothing, Entry as EntryPart, Fork as ForkPart}
 use Rattle.kept_map.proofs.Frames.{lies-kept}
-use Rattle.kept_map.proofs.Lying.{ForkAt, nothing-lies, entry-lies, fork-lies}
+use Rattle.kept_map.proofs.Lies.{IsForkOf, lies-nothing, lies-entry, lies-fork}
 
 pub on_err : {T E P : Type 0} (r : Result T E) → P → OnErr r P
 on_err (Ok x) p = tt
@@ -24,7 +24,7 @@ pub record ForkOn (h : MapHashes) (entries forks : List (List ℕ)) (count k lev
     : Type 0 where
   pub bound : ℕ
   pub inside : bound ≤ count
-  pub at : ForkAt h entries forks bound k tree
+  pub at : IsForkOf h entries forks bound k tree
   pub below : level < 256
   pub weighs : 2 ≤ weight at.left + weight at.right
   pub side : (bit : Bool) → bit_of level key ≡ bit → (number : ℕ)
@@ -38,17 +38,14 @@ module _ (h : MapHashes) (entries forks : List (List ℕ)) (count : ℕ) (number
   lies-within = lies-kept h entries forks forks on.bound count number tree on.inside refl on.lies
 
   pub nothing-on : 0 ≡ number → tree ≡ Empty
-  nothing-on is = nothing-lies h entries forks on.bound tree
-      (subst (λ n. LaidAt h entries forks on.bound n tree) (sym is) on.lies)
+  nothing-on is = lies-nothing h entries forks on.bound number tree (sym is) on.lies
 
   pub entry-on : (k : ℕ) → 2 * k + 1 ≡ number → tree ≡ One (entry_in entries k)
-  entry-on k is = (entry-lies h entries forks on.bound k tree
-      (subst (λ n. LaidAt h entries forks on.bound n tree) (sym is) on.lies)).1
+  entry-on k is = (lies-entry h entries forks on.bound number k tree (sym is) on.lies).1
 
   pub fork-on : (k : ℕ) → 2 * k + 2 ≡ number → ForkOn h entries forks count k level key tree
   fork-on k is =
-      let at = fork-lies h entries forks on.bound k tree
-      (subst (λ n. LaidAt h entries forks on.bound n tree) (sym is) on.lies) in
+      let at = lies-fork h entries forks on.bound number k tree (sym is) on.lies in
       let stands : StandsAt (way level key) (Fork at.left at.right) = subst (StandsAt (way level key)) at.is
       on.stands in
       let long = length-way level key in
@@ -61,7 +58,7 @@ module _ (h : MapHashes) (entries forks : List (List ℕ)) (count : ℕ) (number
         weighs = stands.1;
         side = λ bit here number same. record {
           bound = k;
-          inside = let b = at.below in let i = on.inside in omega (arith, b, i);
+          inside = let b = at.within in let i = on.inside in omega (arith, b, i);
           lies = subst (λ n. LaidAt h entries forks k n (sided bit at.left at.right)) (sym same) (on_side at bit);
           stands = subst (λ n. StandsAt (way n key) (sided bit at.left at.right)) next
               (subst (λ b. StandsAt (b ∷ way level key) (sided bit at.left at.right)) (sym here)
@@ -69,7 +66,7 @@ module _ (h : MapHashes) (entries forks : List (List ℕ)) (count : ℕ) (number
         };
       }
     where
-      on_side : (at : ForkAt h entries forks on.bound k tree) (bit : Bool)
+      on_side : (at : IsForkOf h entries forks on.bound k tree) (bit : Bool)
           → LaidAt h entries forks k (sided bit (left_at forks k) (right_at forks k)) (sided bit at.left at.right)
       on_side at true = at.on_right
       on_side at false = at.on_left

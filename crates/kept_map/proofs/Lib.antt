@@ -1,4 +1,3 @@
-pub mod Lying
 pub mod Descent
 pub mod Finding
 pub mod Frames

@@ -13,7 +13,7 @@ use Rattle.kept_map.specs.KeptMap.{LaidAt, kept_digest, entry_in, fork_count, le
 use Rattle.kept_map.specs.Lying.{LiesMade}
 use Rattle.kept_map.proofs.Descent.{sided}
 use Rattle.kept_map.proofs.Frames.{lies-kept}
-use Rattle.kept_map.proofs.Lying.{ForkAt}
+use Rattle.kept_map.proofs.Lies.{IsForkOf}
 
 -- a fork that is written over two trees
 module _ (h : MapHashes) (entries old new : List (List ℕ)) (count number : ℕ)
@@ -44,7 +44,7 @@ module _ (h : MapHashes) (entries old new : List (List ℕ)) (count number : ℕ
 
 -- what stands beside the key's way
 pub beside-on : (h : MapHashes) (entries forks : List (List ℕ)) (count k : ℕ) (tree : Shape)
-    (at : ForkAt h entries forks count k tree) (bit : Bool)
+    (at : IsForkOf h entries forks count k tree) (bit : Bool)
     → LaidAt h entries forks k (side_of bit forks k) (sided bit at.left at.right)
 beside-on h entries forks count k tree at true = at.on_right
 beside-on h entries forks count k tree at false = at.on_left

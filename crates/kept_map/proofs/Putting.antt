@@ -71,7 +71,7 @@ module _ (h : MapHashes) (entries old next : List (List ℕ)) (count most : ℕ)
   beside-kept k level key tree fork more before bit number is =
       let beside = sided bit fork.at.left fork.at.right in
       let at = beside-on h entries old fork.bound k tree fork.at bit in
-      let below : k ≤ count = let b = fork.at.below in let i = fork.inside in omega (arith, b, i) in
+      let below : k ≤ count = let b = fork.at.within in let i = fork.inside in omega (arith, b, i) in
       lies-kept h entries old next count most number beside more before
       (lies-kept h entries old old k count number beside below refl
       (subst (λ n. LaidAt h entries old k n beside) (sym is) at))

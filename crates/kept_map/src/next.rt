@@ -72,7 +72,7 @@ fn next_in(
 ) -> Result<Option<usize>, MapFault>
     requires { count ≤ length forks.now }
     ensures place { IfOk result (λ found. IfSome found (λ place. place < length entries.now)) }
-    ensures next { IfOk result (λ found. IsNextAt entries.now forks.now number level from.now found) }
+    ensures next { IfOk result (IsNextAt entries.now forks.now number level from.now) }
     ensures found { (h : MapHashes) (first : ℕ) (tree : Shape)
         → LaidAt h (take first entries.now) forks.now count number tree
         → StandsAt (way level from.now) tree → IsOk result }
