@@ -6,3 +6,6 @@ pub mod Made
 pub mod Shapes
 pub mod Twice
 pub mod Halves
+pub mod Powers
+pub mod Telling
+pub mod Divisors

@@ -27,8 +27,3 @@ bls12_381_fr_counts rate few_rounds =
 abbrev pub circom_rounds : ℕ → ℕ
 circom_rounds inputs =
     get_or (56 ∷ 57 ∷ 56 ∷ 60 ∷ 60 ∷ 63 ∷ 64 ∷ 63 ∷ 60 ∷ 66 ∷ 60 ∷ 65 ∷ 70 ∷ 60 ∷ 64 ∷ 68 ∷ []) (inputs - 1) 0
-
--- The partial rounds of seventh powers over fields of one word, by the width: those of the bounds of the Poseidon paper
--- (section 5.5, with the margin of section 5.4) for 128 bits.
-abbrev pub baby_bear_rounds : ℕ → ℕ
-baby_bear_rounds width = if width == 8 then 12 else if width == 12 then 10 else 13

@@ -5,6 +5,7 @@ mod defaults;
 mod draws;
 mod matrix;
 mod parameters;
+mod permuting;
 mod poseidon_two;
 mod ready;
 mod register;
@@ -13,5 +14,6 @@ pub use defaults::{
     PoseidonDefaultConfig, PoseidonDefaultConfigEntry, get_default_poseidon_parameters,
 };
 pub use parameters::{find_poseidon_ark_and_mds, poseidon_parameters};
+pub use permuting::{is_permuting, permutation_tells_states, powers_tell_elements};
 pub use poseidon_two::{Poseidon2Constants, poseidon2_constants};
-pub use ready::{baby_bear_parameters, circom_parameters, circom_rounds, goldilocks_parameters};
+pub use ready::{circom_parameters, circom_rounds, pasta_parameters};

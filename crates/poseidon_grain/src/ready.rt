@@ -1,13 +1,13 @@
 //! Parameters whose counts of rounds stand fixed.
 
-ghost use Rattle.std.specs.Prelude.{◌≡◌, ◌<◌, ◌≤◌, ◌+◌, ◌-◌, ◌⊎◌, true, false, IfOk, IfErr, IfSome, Ok, Err};
+ghost use Rattle.std.specs.Prelude.{◌≡◌, ◌<◌, ◌≤◌, ◌+◌, ◌⊎◌, true, false, IfOk, IfErr, IfSome, Ok, Err};
 ghost use Rattle.ark_base.specs.declared.error.Error.TheVariants.{IncorrectInputLength};
 ghost use Rattle.poseidon_grain.specs.Constants.{instance_of, counts_fit, AreParameters, IsMatrixFault};
-ghost use Rattle.poseidon_grain.specs.Defaults.{circom_rounds, baby_bear_rounds};
+ghost use Rattle.poseidon_grain.specs.Defaults.{circom_rounds};
 
 use crate::parameters::poseidon_parameters;
 use ark_base::error::{Error, Refusal};
-use ark_groups::ff::{BabyBear, Field, Fp, Goldilocks};
+use ark_groups::ff::Field;
 use ark_sponge::poseidon::PoseidonConfig;
 use ark_wide_fields::{Bn254Fr, InvertibleField};
 use std::alloc::Global;
@@ -82,50 +82,16 @@ pub fn circom_parameters(alloc: Global, inputs: usize) -> Result<PoseidonConfig<
     of_rounds::<Bn254Fr>(alloc, inputs, 1, 5, circom_rounds(inputs))
 }
 
-/// Returns parameters over Goldilocks for a width of 8, 12 or 16: a capacity of 4 elements, seventh powers, 8 full rounds
-/// and 22 partial ones. They are the Grain LFSR's: neither Plonky2's, whose constants were drawn otherwise and whose
-/// matrix is circulant, nor those of any Poseidon2.
+/// Returns halo2's parameters `P128Pow5T3`, for `PallasFp` and `VestaFp`: a rate of two elements, a capacity of one, fifth
+/// powers, eight full rounds and 56 partial ones, by the Grain LFSR over the field's modulus.
 ///
-/// Errors: `IncorrectInputLength` with any other width; `ParameterShape` and `OutOfMemory` as of `circom_parameters`.
-pub fn goldilocks_parameters(
-    alloc: Global,
-    width: usize,
-) -> Result<PoseidonConfig<Fp<Goldilocks>>, Error>
+/// Errors: `FieldTooSmall` for a modulus of fewer than nine bits; `ParameterShape` for a matrix that is refused;
+/// `OutOfMemory`.
+pub fn pasta_parameters<F: InvertibleField>(alloc: Global) -> Result<PoseidonConfig<F>, Error>
     ensures made { IfOk result (λ c.
-        AreParameters (instance_of ⟦<Fp<Goldilocks> as Field>⟧.MODULUS
-        ⟦<Fp<Goldilocks> as Field>⟧.MODULUS_BIT_SIZE width 8 22 0) (width - 4) 4 7 c) }
-    ensures none { (width ≡ 8 → ⊥) × (width ≡ 12 → ⊥) × (width ≡ 16 → ⊥)
-        → result ≡ Err (IncorrectInputLength width) }
-    ensures refused { (width ≡ 8) ⊎ (width ≡ 12) ⊎ (width ≡ 16) → IfErr result (IsMatrixFault
-        (instance_of ⟦<Fp<Goldilocks> as Field>⟧.MODULUS
-        ⟦<Fp<Goldilocks> as Field>⟧.MODULUS_BIT_SIZE width 8 22 0)) }
+        AreParameters (instance_of F.MODULUS F.MODULUS_BIT_SIZE 3 8 56 0) 2 1 5 c) }
+    ensures refused { 9 ≤ F.MODULUS_BIT_SIZE → IfErr result
+        (IsMatrixFault (instance_of F.MODULUS F.MODULUS_BIT_SIZE 3 8 56 0)) }
 {
-    if width != 8 && width != 12 && width != 16 {
-        return Err(Error::IncorrectInputLength(width));
-    }
-    of_rounds::<Fp<Goldilocks>>(alloc, width - 4, 4, 7, 22)
-}
-
-/// Returns parameters over BabyBear for a width of 12 or 16: a capacity of 8 elements, seventh powers, 8 full rounds and
-/// 10 or 13 partial ones. They are the Grain LFSR's: neither Plonky3's nor RISC Zero's, which are Poseidon2's.
-///
-/// Errors: `IncorrectInputLength` with any other width; `ParameterShape` and `OutOfMemory` as of `circom_parameters`.
-pub fn baby_bear_parameters(
-    alloc: Global,
-    width: usize,
-) -> Result<PoseidonConfig<Fp<BabyBear>>, Error>
-    ensures made { IfOk result (λ c.
-        AreParameters (instance_of ⟦<Fp<BabyBear> as Field>⟧.MODULUS
-        ⟦<Fp<BabyBear> as Field>⟧.MODULUS_BIT_SIZE width 8 (baby_bear_rounds width) 0)
-        (width - 8) 8 7 c) }
-    ensures none { (width ≡ 12 → ⊥) × (width ≡ 16 → ⊥) → result ≡ Err (IncorrectInputLength width) }
-    ensures refused { (width ≡ 12) ⊎ (width ≡ 16) → IfErr result (IsMatrixFault
-        (instance_of ⟦<Fp<BabyBear> as Field>⟧.MODULUS
-        ⟦<Fp<BabyBear> as Field>⟧.MODULUS_BIT_SIZE width 8 (baby_bear_rounds width) 0)) }
-{
-    if width != 12 && width != 16 {
-        return Err(Error::IncorrectInputLength(width));
-    }
-    let rounds = if width == 12 { 10 } else { 13 };
-    of_rounds::<Fp<BabyBear>>(alloc, width - 8, 8, 7, rounds)
+    of_rounds::<F>(alloc, 2, 1, 5, 56)
 }
