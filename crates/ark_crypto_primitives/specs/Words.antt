@@ -49,12 +49,16 @@ pub use Rattle.ark_poseidon_parameters.specs.Ready.{AreReady, bls12_381_fr_alpha
 pub use Rattle.poseidon_grain.specs.Grain.{below_drawn, list_drawn, remainder_drawn, seeded}
 pub use Rattle.poseidon_grain.specs.Constants.{AreGenerated, AreParameters, Instance, IsCauchy, IsMatrixRefused, instance_of}
 pub use Rattle.poseidon_grain.specs.Constants.{constants_drawn, counts_fit, xs_drawn, ys_drawn}
-pub use Rattle.poseidon_grain.specs.Defaults.{Counts, baby_bear_rounds, bls12_381_fr_counts, circom_rounds}
+pub use Rattle.poseidon_grain.specs.Defaults.{Counts, bls12_381_fr_counts, circom_rounds}
+pub use Rattle.poseidon_grain.specs.Permuting.{IsPermuting, IsStateOf, TellsNumbers, TellsStates}
 pub use Rattle.poseidon2.specs.Compression.{poseidon2_hash, setup_refused}
+pub use Rattle.poseidon2.specs.Deployed.{baby_bear_outcome, goldilocks_outcome, koala_bear_outcome, risc_zero_outcome}
 pub use Rattle.poseidon2.specs.Matrices.{block_circulant, external_matrix, internal_matrix}
+pub use Rattle.poseidon2.specs.Modes.{compressed_digests, padding_free_hash, state_overwriting}
 pub use Rattle.poseidon2.specs.Permutation.{are_wide, is_width, lawful_poseidon2, poseidon2_permutation}
 -- hashes
 pub use Rattle.ark_crh.specs.Ahead.{HashesAhead, lent, lent_couples, of_bytes, of_couple, sure}
+pub use Rattle.ark_poseidon.specs.ConstantLength.{constant_length_outcome}
 pub use Rattle.ark_poseidon.specs.Digest.{digest_of_two}
 pub use Rattle.ark_pedersen.specs.Pedersen.{AreDrawn, AreGeneratorsOf, bits_of_bytes, doublings, generators_in}
 pub use Rattle.ark_pedersen.specs.Pedersen.{lists_in, of_halves, pedersen_hash, seen_by, window_elements, windows_hash}

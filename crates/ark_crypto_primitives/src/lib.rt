@@ -141,9 +141,11 @@ pub mod crh {
         pub use ark_crh::sha256::Sha256;
     }
 
-    /// What a new sponge gives once it has absorbed the input, and the hash of circomlib.
+    /// What a new sponge gives once it has absorbed the input, and the hashes of circomlib and of Orchard.
     pub mod poseidon {
-        pub use ark_poseidon::{CRH, CircomCRH, CircomTwoToOneCRH, TwoToOneCRH, circom_hash};
+        pub use ark_poseidon::{
+            CRH, CircomCRH, CircomTwoToOneCRH, TwoToOneCRH, circom_hash, constant_length_hash,
+        };
     }
 
     /// Sums of elements at the set bits of an input.
@@ -189,9 +191,10 @@ pub mod sponge {
         pub mod parameters {
             pub use ark_poseidon_parameters::{Power, bls12_381_fr, bn254_fr};
             pub use poseidon_grain::{
-                PoseidonDefaultConfig, PoseidonDefaultConfigEntry, baby_bear_parameters,
-                circom_parameters, find_poseidon_ark_and_mds, get_default_poseidon_parameters,
-                goldilocks_parameters, poseidon_parameters,
+                PoseidonDefaultConfig, PoseidonDefaultConfigEntry, circom_parameters,
+                find_poseidon_ark_and_mds, get_default_poseidon_parameters, is_permuting,
+                pasta_parameters, permutation_tells_states, poseidon_parameters,
+                powers_tell_elements,
             };
         }
     }

@@ -8,3 +8,5 @@ pub mod ConfigBytes
 pub mod Truncated
 pub mod Drawn
 pub mod Short
+pub mod Overwriting
+pub mod ModeStates

@@ -4,5 +4,7 @@ pub mod Blocks
 pub mod Permutation
 pub mod ConfigBytes
 pub mod Ready
+pub mod Deployed
 pub mod Compression
+pub mod Modes
 pub mod Laws
