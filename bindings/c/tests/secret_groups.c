@@ -19,6 +19,9 @@ void secret_signature(uint8_t signature[64], const uint8_t seed[32]);
 int32_t secret_same_digest(const uint8_t a[32], const uint8_t b[32]);
 void secret_key_word(uint8_t word[44], const uint8_t bytes[33]);
 int32_t secret_key_bytes(uint8_t bytes[33], const uint8_t word[44]);
+int32_t secret_commitment(uint8_t commitment[64], const uint8_t randomness[32]);
+int32_t planted_commitment(uint8_t commitment[64], const uint8_t randomness[32]);
+void planted_multiple(uint8_t key[64], const uint8_t secret[32]);
 
 static const uint8_t ONE[32] = {1};
 
@@ -97,6 +100,19 @@ static int key_text(void) {
     return answers[0] == 0 && bytes[0] == 0 && bytes[1] == 16 && bytes[2] == 131;
 }
 
+static void commitment_by_table(uint8_t commitment[64], const uint8_t randomness[32]) {
+    if (secret_commitment(commitment, randomness) != 0)
+        memset(commitment, 0, 64);
+}
+
+/* The commitment by a table is the one by bits. */
+static int commitment(void) {
+    uint8_t one[64], other[64], randomness[32] = {255, 1, 2, 3};
+    commitment_by_table(one, randomness);
+    return planted_commitment(other, randomness) == 0 && memcmp(one, other, 64) == 0
+        && same(commitment_by_table, 7, 0) && same(commitment_by_table, 255, 14);
+}
+
 /* 9 - 2 3 = 3 */
 static int response(void) {
     uint8_t nonce[32] = {9}, secret[32] = {2}, challenge[32] = {3}, answer[32], three[32] = {3};
@@ -118,6 +134,22 @@ static int planted_branch(void) {
     return 1;
 }
 
+/* Two calls of the library that branch on what is secret here. */
+static int planted_in_commitment(void) {
+    uint8_t randomness[32], out[64];
+    memcpy(randomness, ONE, 32);
+    SECRET(randomness);
+    return planted_commitment(out, randomness) == 0;
+}
+
+static int planted_in_multiple(void) {
+    uint8_t secret[32], out[64];
+    memcpy(secret, ONE, 32);
+    SECRET(secret);
+    planted_multiple(out, secret);
+    return 1;
+}
+
 static const struct {
     const char *name;
     int (*call)(void);
@@ -130,7 +162,10 @@ static const struct {
     {"signature", signature},
     {"same_digest", same_digest},
     {"key_text", key_text},
+    {"commitment", commitment},
     {"planted_branch", planted_branch},
+    {"planted_in_commitment", planted_in_commitment},
+    {"planted_in_multiple", planted_in_multiple},
 };
 
 int main(int argc, char **argv) {

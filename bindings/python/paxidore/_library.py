@@ -256,13 +256,17 @@ def _copied(buffer: Any) -> bytes:
 
 def _flat(leaves: Tuple[bytes, ...]) -> _Flat:
     # one look at all types and one at all lengths, which costs a third of a call for each leaf
-    if not set(map(type, leaves)) <= {bytes}:
+    count = len(leaves)
+    if list(map(type, leaves)).count(bytes) != count:
         for leaf in leaves:
             _exact("a leaf", leaf)
     joined = b"".join(leaves)
-    # an array takes a list faster than an iterator
-    lengths = array("Q", list(map(len, leaves)))
-    return joined, len(joined), (_size * len(leaves)).from_buffer(lengths), len(leaves)
+    # lengths that may be one are looked at without a list of them; else an array takes a list faster than an iterator
+    if count and len(joined) == count * len(leaves[0]) and len(set(map(len, leaves))) == 1:
+        lengths = array("Q", (len(leaves[0]),)) * count
+    else:
+        lengths = array("Q", list(map(len, leaves)))
+    return joined, len(joined), (_size * count).from_buffer(lengths), count
 
 
 def _path_digests(size: int) -> int:

@@ -70,7 +70,7 @@ pub mod commitment {
     /// The Pedersen hash of the input and a multiple of an element, the randomness being the count.
     pub mod pedersen {
         pub use ark_schemes::commitment::pedersen::{
-            Commitment, Parameters, Randomness, Window, opening_relation_of,
+            Commitment, Parameters, PreparedParameters, Randomness, Window, opening_relation_of,
         };
         pub use ark_schemes::from_label::pedersen_commitment_from_label;
     }

@@ -5,3 +5,4 @@ pub mod Pieces
 pub mod Texts
 pub mod WordSums
 pub mod GroupHashes
+pub mod Doublings

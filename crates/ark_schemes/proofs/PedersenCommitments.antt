@@ -97,6 +97,14 @@ module _ {G W : Type 0} {g : Group G} (laws : IsCommutativeGroup g) (bits : ℕ)
           ∙ randomness_sum-long g bits (doublings g bits element) n (length-iterates (λ y. g.plus y y) bits element)
           ∙ ap (λ (y : G). let o : Outcome G = Ok y in o) sum
 
+  -- so is a hash with n times that element added
+  pub commitment-by_multiple : (input : List ℕ) (n : ℕ) (hash sum : G) → n < 2 ^ bits
+      → pedersen_hash g windows lists.windows input ≡ Ok hash → sum ≡ g.plus hash (times g n element)
+      → ◌≡◌ {A = Outcome G} (Ok sum) (pedersen_commitment g bits windows lists input n)
+  commitment-by_multiple input n hash sum fits hash_is is =
+      let make : G → Outcome G = λ x. Ok x in
+      ap make is ∙ ap (with_multiple n) (sym hash_is) ∙ sym (as_multiple input n fits)
+
   -- the sum over the windows, and n times the element
   pub pedersen_commitment-windows : (elements : List G) (input : List ℕ) (n : ℕ) → n < 2 ^ bits → AreGeneratorsOf g
       windows elements lists.windows

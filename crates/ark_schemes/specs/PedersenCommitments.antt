@@ -1,7 +1,8 @@
 -- Pedersen commitments: the Pedersen hash of the input, and to it another element as often as the randomness says.
-use Rattle.std.specs.Prelude.{◌≡◌, ℕ, ◌==◌, List, length, Ok, Err, if◌then◌else◌}
+use Rattle.std.specs.Prelude.{◌≡◌, ℕ, ◌==◌, ◌⊎◌, List, length, Ok, Err, if◌then◌else◌}
 use Rattle.ark_base.specs.Outcome.{Outcome, ◌>>=◌}
-use Rattle.ark_base.specs.declared.error.Error.TheVariants.{GenericError}
+use Rattle.ark_base.specs.declared.error.Error.{Error}
+use Rattle.ark_base.specs.declared.error.Error.TheVariants.{GenericError, OutOfMemory}
 use Rattle.ark_base.specs.declared.error.Refusal.TheVariants.{ParameterShape}
 use Rattle.rand_core.specs.Stream.{Stream}
 use Rattle.ark_groups.specs.Group.{Group, times}
@@ -10,6 +11,7 @@ use Rattle.ark_pedersen.specs.Pedersen.{bits_of_bytes, union, AreDisjoint, peder
 use Rattle.ark_pedersen.specs.Pedersen.{lists_in, AreGeneratorsOf, window_elements, pedersen_hash, windows_hash}
 use Rattle.ark_pedersen.specs.declared.window.Window.{Ghosts as Windows}
 use Rattle.ark_schemes.specs.declared.commitment.pedersen.parameters.Parameters.{Parameters}
+use Rattle.ark_schemes.specs.declared.commitment.pedersen.prepared.PreparedParameters.{PreparedParameters}
 
 -- ---- parameters
 
@@ -47,6 +49,21 @@ abbrev pub AreAllDrawn : {G W : Type 0} → Group G → (Stream → G × Stream)
 AreAllDrawn g draw bits windows stream lists =
     let elements = (drawn_elements draw windows stream).0 in
     AreOf g bits windows elements.0 elements.1 lists
+
+-- ---- parameters with a table
+
+-- the elements that parameters with a table have: for the randomness the doublings of the table's element
+abbrev pub elements_by_table : {G S T L : Type 0} → (L → G) → Group G → ℕ → PreparedParameters G L S T → Generators G
+elements_by_table base g bits prepared = record {
+  randomness = doublings g bits (base prepared.table);
+  windows = lists_in prepared.generators.items;
+}
+
+-- why there is no table: a lack of memory, or a list that is not an element's doublings
+abbrev pub IsTableFault : {G : Type 0} → Group G → ℕ → List G → Error → Type 0
+IsTableFault {G} g bits elements error =
+    (error ≡ OutOfMemory)
+    ⊎ ((error ≡ GenericError ParameterShape) × ((element : G) → elements ≡ doublings g bits element → ⊥))
 
 -- ---- commitments
 

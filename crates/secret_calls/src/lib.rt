@@ -2,8 +2,12 @@
 //! undefined. They stand in no library that is handed out, and promise nothing beyond what they call.
 #![tactic(auto)]
 
+use ark_base::error::Error;
 use ark_groups::ec::{AdditiveGroup, FixedBaseGroup};
 use ark_groups::ff::Field;
+use ark_schemes::commitment::CommitmentScheme;
+use ark_schemes::commitment::pedersen::{Commitment, PreparedParameters, Randomness, Window};
+use ark_schemes::from_label::pedersen_commitment_from_label;
 use ark_schemes::prf::is_same_digest;
 use ed25519::SigningKey;
 use jubjub::{Jubjub, JubjubFr};
@@ -87,4 +91,76 @@ pub extern "C" fn secret_key_bytes(bytes: &mut [u8; 33], word: &[u8; 44]) -> i32
     let (own, is_whole) = bytes_of(word);
     *bytes = own;
     is_whole as i32
+}
+
+// A window of four bits.
+struct OneWindow;
+
+impl Window for OneWindow {
+    ghost use Rattle.std.proofs.Common.{lit<};
+
+    ghost WINDOW_SIZE = { 4 };
+
+    const WINDOW_SIZE: usize = 4;
+
+    ghost NUM_WINDOWS = { 1 };
+
+    const NUM_WINDOWS: usize = 1;
+
+    ghost some = { lit< tt };
+
+    ghost fits = { lit< tt };
+}
+
+/// Writes the Pedersen commitment to no byte, by a table of the randomness element. Returns 0, or 1 where memory is
+/// refused.
+#[unsafe(no_mangle)]
+pub extern "C" fn secret_commitment(
+    alloc: Global,
+    commitment: &mut [u8; 64],
+    randomness: &[u8; 32],
+) -> i32 {
+    match committed_by_table(alloc, scalar(randomness)) {
+        Ok(element) => {
+            *commitment = element.to_bytes();
+            0
+        }
+        Err(_) => 1,
+    }
+}
+
+fn committed_by_table(alloc: Global, randomness: JubjubFr) -> Result<Jubjub, Error> {
+    let parameters = pedersen_commitment_from_label::<Jubjub, OneWindow>(alloc, b"sealed__")?;
+    let prepared = PreparedParameters::new(alloc, parameters)?;
+    prepared.commit::<OneWindow>(&[], &Randomness(randomness))
+}
+
+/// Writes the same commitment without a table, which takes a branch and an address from each bit of the randomness. Returns 0,
+/// or 1 where memory is refused.
+#[unsafe(no_mangle)]
+pub extern "C" fn planted_commitment(
+    alloc: Global,
+    commitment: &mut [u8; 64],
+    randomness: &[u8; 32],
+) -> i32 {
+    match committed_by_bits(alloc, scalar(randomness)) {
+        Ok(element) => {
+            *commitment = element.to_bytes();
+            0
+        }
+        Err(_) => 1,
+    }
+}
+
+fn committed_by_bits(alloc: Global, randomness: JubjubFr) -> Result<Jubjub, Error> {
+    let parameters = pedersen_commitment_from_label::<Jubjub, OneWindow>(alloc, b"sealed__")?;
+    Commitment::<Jubjub, OneWindow>::commit(alloc, &parameters, &[], &Randomness(randomness))
+}
+
+/// Writes a multiple of the generator by the call for public scalars, which branches on the scalar.
+#[unsafe(no_mangle)]
+pub extern "C" fn planted_multiple(key: &mut [u8; 64], secret: &[u8; 32]) {
+    *key = Jubjub::generator()
+        .mul_public(scalar(secret).words())
+        .to_bytes();
 }

@@ -9,6 +9,7 @@ ghost use Rattle.ark_schemes.specs.PedersenCommitments.{windows_commitment, sum_
 
 mod binding;
 mod parameters;
+mod prepared;
 mod randomness;
 
 use crate::commitment::CommitmentScheme;
@@ -20,6 +21,7 @@ pub use ark_pedersen::Window;
 use ark_pedersen::{CRH, sum_of_bytes};
 pub use binding::opening_relation_of;
 pub use parameters::Parameters;
+pub use prepared::PreparedParameters;
 use rand::Rng;
 pub use randomness::Randomness;
 use std::alloc::Global;
