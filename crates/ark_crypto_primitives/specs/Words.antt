@@ -72,7 +72,7 @@ pub use Rattle.ark_trees.specs.Rfc6962.{node_of}
 -- commitments, encryption and signatures
 pub use Rattle.ark_schemes.specs.Commitments.{blake2s_commitment}
 pub use Rattle.ark_schemes.specs.PedersenCommitments.{AreMade, AreOf, IsUnion, elements_in, pedersen_commitment, sum_of}
-pub use Rattle.ark_schemes.specs.PedersenCommitments.{IsTableFault, elements_by_table, windows_commitment}
+pub use Rattle.ark_schemes.specs.PedersenCommitments.{IsDoublingFault, elements_by_table, windows_commitment}
 pub use Rattle.ark_signatures.specs.ElGamal.{decrypted, encrypted}
 pub use Rattle.ark_signatures.specs.Schnorr.{IsValid, challenge_of, first_nonce, highest_first, multiplier, numbers_of}
 pub use Rattle.ark_signatures.specs.Schnorr.{randomised, randomised_key, response, signed, verified}

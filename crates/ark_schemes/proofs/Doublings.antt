@@ -14,7 +14,8 @@ module _ {G : Type 0} (g : Group G) where
   abbrev pub DoubledTo : List G → ℕ → Type 0
   DoubledTo xs i = (j : ℕ) (d : G) → suc j < i → get_or xs (suc j) d ≡ g.plus (get_or xs j d) (get_or xs j d)
 
-  pub all-doubled : (x : G) (xs : List G) → DoubledTo (x ∷ xs) (suc (length xs)) → x ∷ xs ≡ doublings g (suc (length xs)) x
+  pub all-doubled : (x : G) (xs : List G) → DoubledTo (x ∷ xs) (suc (length xs))
+      → x ∷ xs ≡ doublings g (suc (length xs)) x
   unfolding iterates
   all-doubled x [] doubled = refl
   all-doubled x (y ∷ ys) doubled =

@@ -60,8 +60,8 @@ elements_by_table base g bits prepared = record {
 }
 
 -- why there is no table: a lack of memory, or a list that is not an element's doublings
-abbrev pub IsTableFault : {G : Type 0} → Group G → ℕ → List G → Error → Type 0
-IsTableFault {G} g bits elements error =
+abbrev pub IsDoublingFault : {G : Type 0} → Group G → ℕ → List G → Error → Type 0
+IsDoublingFault {G} g bits elements error =
     (error ≡ OutOfMemory)
     ⊎ ((error ≡ GenericError ParameterShape) × ((element : G) → elements ≡ doublings g bits element → ⊥))
 

@@ -3,7 +3,7 @@
 ghost use Rattle.std.specs.Prelude.{◌≡◌, ℕ, ◌<◌, ◌⊎◌, List, IfOk, IfErr, IfSome, IsNone};
 ghost use Rattle.ark_groups.specs.Group.{times};
 ghost use Rattle.ark_pedersen.specs.Pedersen.{doublings};
-ghost use Rattle.ark_schemes.specs.PedersenCommitments.{elements_in, elements_by_table, pedersen_commitment, IsTableFault};
+ghost use Rattle.ark_schemes.specs.PedersenCommitments.{elements_in, elements_by_table, pedersen_commitment, IsDoublingFault};
 
 use crate::commitment::pedersen::{Parameters, Randomness};
 use ark_base::error::{Error, Refusal};
@@ -47,7 +47,7 @@ impl<C: FixedBaseGroup> PreparedParameters<C> {
         ensures made { let bits = C.ScalarField.MODULUS_BIT_SIZE in
             IfOk result (λ made. elements_by_table C.base C.group bits made ≡ elements_in parameters) }
         ensures refused { let bits = C.ScalarField.MODULUS_BIT_SIZE in
-            IfErr result (IsTableFault C.group bits (elements_in parameters).randomness) }
+            IfErr result (IsDoublingFault C.group bits (elements_in parameters).randomness) }
     {
         let bits = C::ScalarField::MODULUS_BIT_SIZE as usize;
         match doubled_element(&parameters.randomness_generator, bits) {
