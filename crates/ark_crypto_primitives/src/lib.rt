@@ -192,9 +192,9 @@ pub mod sponge {
             pub use ark_poseidon_parameters::{Power, bls12_381_fr, bn254_fr};
             pub use poseidon_grain::{
                 PoseidonDefaultConfig, PoseidonDefaultConfigEntry, circom_parameters,
-                find_poseidon_ark_and_mds, get_default_poseidon_parameters, is_permuting,
-                pasta_parameters, permutation_tells_states, poseidon_parameters,
-                powers_tell_elements,
+                drawn_permutations_tell_states, find_poseidon_ark_and_mds,
+                get_default_poseidon_parameters, is_permuting, pasta_parameters,
+                permutation_tells_states, poseidon_parameters, powers_tell_elements,
             };
         }
     }

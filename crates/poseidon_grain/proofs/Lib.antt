@@ -9,3 +9,6 @@ pub mod Halves
 pub mod Powers
 pub mod Telling
 pub mod Divisors
+pub mod CauchyTells
+pub mod MatrixTells
+pub mod DrawnTells

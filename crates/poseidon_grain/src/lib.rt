@@ -14,6 +14,8 @@ pub use defaults::{
     PoseidonDefaultConfig, PoseidonDefaultConfigEntry, get_default_poseidon_parameters,
 };
 pub use parameters::{find_poseidon_ark_and_mds, poseidon_parameters};
-pub use permuting::{is_permuting, permutation_tells_states, powers_tell_elements};
+pub use permuting::{
+    drawn_permutations_tell_states, is_permuting, permutation_tells_states, powers_tell_elements,
+};
 pub use poseidon_two::{Poseidon2Constants, poseidon2_constants};
 pub use ready::{circom_parameters, circom_rounds, pasta_parameters};
