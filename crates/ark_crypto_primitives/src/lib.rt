@@ -39,6 +39,7 @@ pub mod ec {
         SWCoordinates, SWPoint, Small, SmallModulus, TECoordinates, TEPoint, ToldByX,
     };
     pub use ark_schemes::from_label::{elements_of_label, group_hash, texts_are_apart};
+    pub use baby_jubjub;
     pub use jubjub;
 }
 
@@ -97,6 +98,11 @@ pub mod encryption {
 pub mod signature {
     pub use ark_signatures::signature::SignatureScheme;
     pub use ed25519;
+
+    /// EdDSA over Baby Jubjub with Poseidon, as circomlib and iden3 have it.
+    pub mod eddsa_poseidon {
+        pub use baby_jubjub::{EddsaPoseidon, Signature, SignatureFault, SigningKey};
+    }
 
     /// Ed25519 as a `SignatureScheme`.
     pub mod rfc8032 {

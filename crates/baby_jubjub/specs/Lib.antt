@@ -1,0 +1,9 @@
+pub mod Twisted
+pub mod Scaled
+pub mod BabyJubjub
+pub mod Values
+pub mod Points
+pub mod Packed
+pub mod Eddsa
+pub mod Keys
+pub mod Laws
