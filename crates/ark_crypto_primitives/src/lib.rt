@@ -101,7 +101,7 @@ pub mod signature {
 
     /// EdDSA over Baby Jubjub with Poseidon, as circomlib and iden3 have it.
     pub mod eddsa_poseidon {
-        pub use baby_jubjub::{EddsaPoseidon, Signature, SignatureFault, SigningKey};
+        pub use baby_jubjub::{EddsaPoseidon, PrivateKey, Signature, SignatureFault, SigningKey};
     }
 
     /// Ed25519 as a `SignatureScheme`.

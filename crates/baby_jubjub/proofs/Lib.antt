@@ -6,3 +6,4 @@ pub mod PackedFacts
 pub mod SignatureBytes
 pub mod Equation
 pub mod Hashing
+pub mod Mixing

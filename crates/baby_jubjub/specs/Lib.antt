@@ -1,3 +1,4 @@
+pub mod Blake512
 pub mod Twisted
 pub mod Scaled
 pub mod BabyJubjub
@@ -6,4 +7,6 @@ pub mod Points
 pub mod Packed
 pub mod Eddsa
 pub mod Keys
+pub mod Private
+pub mod PrivateKeys
 pub mod Laws

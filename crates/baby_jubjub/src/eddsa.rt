@@ -10,12 +10,15 @@ ghost use Rattle.baby_jubjub.specs.BabyJubjub.{order, curve, base8};
 ghost use Rattle.baby_jubjub.specs.Eddsa.{RunsPoseidon, eddsa_challenge, poseidon_instance, IsEddsaSignature, IsSignedWith};
 ghost use Rattle.baby_jubjub.specs.Keys.{secret_of};
 ghost use Rattle.baby_jubjub.specs.Points.{coordinates};
+ghost use Rattle.baby_jubjub.specs.Private.{private_nonce, private_secret};
+ghost use Rattle.baby_jubjub.specs.PrivateKeys.{private_bytes};
 ghost use Rattle.baby_jubjub.specs.Values.{value, scalar_number};
 
 use crate::embedded::twice_coefficient;
 use crate::fr::BabyJubjubFr;
 use crate::keys::{SigningKey, modulo_order};
 use crate::point::Point;
+use crate::private::PrivateKey;
 use crate::signature::Signature;
 use ark_base::error::Error;
 use ark_groups::ff::{Field, UniformRand, Words};
@@ -117,6 +120,20 @@ impl EddsaPoseidon {
             r8,
             s: nonce.add(eight.mul(key.secret())),
         }
+    }
+
+    /// Returns the signature that circomlib's `signPoseidon` makes: its nonce comes of the private key and of the message.
+    pub fn sign_private(&self, key: &PrivateKey, message: Bn254Fr) -> Signature
+        ensures exact { (c : Parameters) → RunsPoseidon c self.now
+            → let bytes = private_bytes key.now in let nonce = private_nonce bytes (value message) in
+            IsSignedWith c nonce (private_secret bytes) (value message)
+            (coordinates result.r8) (scalar_number result.s) }
+        ensures valid { (c : Parameters) → RunsPoseidon c self.now
+            → let secret = private_secret (private_bytes key.now) in
+            IsEddsaSignature c (times curve secret base8) (value message)
+            (coordinates result.r8) (scalar_number result.s) }
+    {
+        self.sign_with_nonce(&key.signing_key(), message, key.nonce(message))
     }
 
     /// Draws the nonce and returns the signature of a message. The seed of the generator must be secret.

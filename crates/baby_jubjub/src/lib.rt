@@ -2,6 +2,7 @@
 //! Poseidon, as circomlib and iden3 have it.
 #![tactic(auto)]
 
+mod blake512;
 mod eddsa;
 mod embedded;
 mod fr;
@@ -9,11 +10,14 @@ mod keys;
 mod laws;
 mod packed;
 mod point;
+mod private;
 mod signature;
 
+pub use blake512::{blake512_of_32, blake512_of_64};
 pub use eddsa::EddsaPoseidon;
 pub use fr::{BabyJubjubFr, BabyJubjubFrModulus};
 pub use keys::SigningKey;
 pub use laws::{base8_has_the_order, order_is_prime, points_are_a_group, same_bytes_are_one_point};
 pub use point::{Point, PointFault};
+pub use private::PrivateKey;
 pub use signature::{Signature, SignatureFault};
