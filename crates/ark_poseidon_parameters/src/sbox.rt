@@ -5,7 +5,7 @@ ghost use Rattle.std.specs.Prelude.{◌≡◌, ◌%◌, ◌^◌};
 use ark_groups::ff::Field;
 use ark_sponge::poseidon::SBox;
 
-/// Raises an element to the power of the parameters' exponent. 5 and 17 take the fewest products.
+/// Raises an element to the power of the parameters' exponent. 3, 5, 7 and 17 take the fewest products.
 pub struct Power;
 
 impl<F: Field> SBox<F> for Power {
@@ -13,11 +13,31 @@ impl<F: Field> SBox<F> for Power {
 
     fn apply(alpha: u64, x: F) -> F {
         match alpha {
+            3 => third_power(x),
             5 => fifth_power(x),
+            7 => seventh_power(x),
             17 => seventeenth_power(x),
             _ => any_power(x, alpha),
         }
     }
+}
+
+#[inline(always)]
+fn third_power<F: Field>(x: F) -> F
+    ensures { F.value result ≡ F.value x ^ 3 % F.MODULUS }
+{
+    let second = x.mul(x);
+    second.mul(x)
+}
+
+#[inline(always)]
+fn seventh_power<F: Field>(x: F) -> F
+    ensures { F.value result ≡ F.value x ^ 7 % F.MODULUS }
+{
+    let second = x.mul(x);
+    let third = second.mul(x);
+    let sixth = third.mul(third);
+    sixth.mul(x)
 }
 
 #[inline(always)]
