@@ -34,7 +34,7 @@ generator = record {
   y = 5472060717959818805561601436314318772137091100104008585924551046643952123905;
 }
 
--- Base8, eight times the generator: the point whose multiples are the prime subgroup
+-- Base8, eight times the generator, whose multiple by the order is zero
 abbrev pub base8 : Coordinates
 base8 = record {
   x = 5299619240641551281634865583518297030282874472190772894086521144482721001553;

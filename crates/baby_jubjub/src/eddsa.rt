@@ -88,7 +88,7 @@ impl EddsaPoseidon {
     }
 
     /// Returns whether it is a signature of the message by the key. As circomlib, it takes any point of the curve as a
-    /// key: under one whose multiple by 8 is zero each message has signatures.
+    /// key: under one whose multiple by 8 is zero each message has signatures. It allocates nothing.
     pub fn verify(&self, key: Point, message: Bn254Fr, signature: Signature) -> bool
         ensures { (c : Parameters) → RunsPoseidon c self.now
             → Decides result (IsEddsaSignature c (coordinates key) (value message)
@@ -136,7 +136,7 @@ impl EddsaPoseidon {
         self.sign_with_nonce(&key.signing_key(), message, key.nonce(message))
     }
 
-    /// Draws the nonce and returns the signature of a message. The seed of the generator must be secret.
+    /// Draws the nonce and returns the signature of a message. The seed of the generator must be secret. It allocates nothing.
     pub fn sign<R: Rng>(&self, key: &SigningKey, message: Bn254Fr, rng: &mut R) -> Signature
         ensures exact { (c : Parameters) → RunsPoseidon c self.now
             → let nonce = (⟦<BabyJubjubFr as UniformRand>⟧.draw (R.stream rng.old)).0 in

@@ -98,7 +98,7 @@ impl Point {
         Point::of(Bn254Fr::zero(), Bn254Fr::one())
     }
 
-    /// Returns Base8, whose multiples are the prime subgroup.
+    /// Returns Base8, eight times ERC-2494's generator, whose order is that of the prime subgroup.
     pub fn base8() -> Point
         ensures { coordinates result ≡ base8 }
     {
@@ -167,7 +167,7 @@ impl Point {
         Point::of_embedded(multiple_public(twice_coefficient(), self.embedded(), scalar))
     }
 
-    /// Returns whether the point is in the prime subgroup: the multiples of Base8.
+    /// Returns whether the point is in the prime subgroup: whether its multiple by the order is zero.
     pub fn is_in_subgroup(self) -> bool
         ensures { Decides result (IsInPrimeSubgroup (coordinates self)) }
     {
