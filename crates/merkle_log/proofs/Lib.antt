@@ -47,3 +47,10 @@ pub mod RisenRows
 pub mod LaidRows
 pub mod Rooms
 pub mod PartsBehind
+pub mod MultiParts
+pub mod MultiBound
+pub mod MultiOwn
+pub mod MultiCounts
+pub mod MultiHashing
+pub mod MultiMaking
+pub mod MultiLeaves

@@ -16,3 +16,5 @@ pub mod Asked
 pub mod Kept
 pub mod Levels
 pub mod Rising
+pub mod Multi
+pub mod MultiBind

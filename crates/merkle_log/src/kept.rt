@@ -16,6 +16,7 @@ ghost use Rattle.merkle_log.specs.Stored.{stored_count, StoredValue};
 
 mod check;
 mod growth;
+mod multi;
 mod node;
 
 pub use crate::kept::node::{KeptNodes, Never};

@@ -11,6 +11,10 @@ mod joining;
 pub mod kept;
 mod laying;
 pub mod log;
+mod multi_check;
+pub mod multi_inclusion;
+pub mod multi_making;
+pub mod multi_parts;
 pub mod nodes;
 pub mod path_lengths;
 pub mod paths;
@@ -27,4 +31,7 @@ pub use consistency::verify_consistency;
 pub use frontier::Frontier;
 pub use inclusion::{verify_inclusion, verify_inclusion_digest};
 pub use log::Log;
+pub use multi_inclusion::{
+    verify_multi_inclusion, verify_multi_inclusion_bytes, verify_multi_inclusion_digests,
+};
 pub use received::{verify_consistency_bytes, verify_inclusion_bytes};

@@ -16,6 +16,8 @@ ghost use Rattle.merkle_log.specs.Log.{LogValue, both_levels, inclusion_path, co
 ghost use Rattle.merkle_log.specs.Stored.{row_at, IsStored};
 ghost use Rattle.merkle_log.specs.Verdict.{inclusion_verdict, consistency_verdict};
 
+mod multi;
+
 use crate::bind::{LogBinding, log_binding_of};
 use crate::digests::{blank_digests, copy_of};
 use crate::path_lengths::{consistency_length, inclusion_length};
