@@ -11,7 +11,7 @@ use Rattle.merkle_log.specs.Collision.{Collide, IsTreePair}
 use Rattle.merkle_log.specs.Log.{NodeHash}
 use Rattle.merkle_log.specs.Trees.{node}
 use Rattle.merkle_log.specs.Walk.{joined}
-use Rattle.merkle_log.specs.Multi.{Known, middle, count_below, count_around, digests_at, known_hash, are_indexes, multi_length, has_form, multi_verdict}
+use Rattle.merkle_log.specs.Multi.{Known, middle, count_below, count_around, digests_at, known_hash, are_multi_indexes, multi_length, has_form, known_verdict}
 use Rattle.merkle_log.specs.MultiBind.{HashesPair, Own, InLeft, InRight, Alone, BindsDigests}
 use Rattle.merkle_log.proofs.Above.{there, joined-ok}
 use Rattle.merkle_log.proofs.TreePairs.{node-zero, same_pairs}
@@ -122,30 +122,30 @@ module _ (hash : NodeHash) (empty : Digest) (digests : List Digest) where
 
 -- ---- the verdict
 
-pub form-parts : (size : ℕ) (known : Known) → has_form size known ≡ true → (are_indexes size known.indexes ≡ true)
+pub form-parts : (size : ℕ) (known : Known) → has_form size known ≡ true → (are_multi_indexes size known.indexes ≡ true)
     × (length known.leaves ≡ length known.indexes) × (length known.proof ≡ multi_length size known.indexes)
 form-parts size known is =
-    let a = and_parts (are_indexes size known.indexes && (length known.leaves == length known.indexes))
+    let a = and_parts (are_multi_indexes size known.indexes && (length known.leaves == length known.indexes))
     (length known.proof == multi_length size known.indexes) is in
-    let b = and_parts (are_indexes size known.indexes) (length known.leaves == length known.indexes) a.0 in (
+    let b = and_parts (are_multi_indexes size known.indexes) (length known.leaves == length known.indexes) a.0 in (
       b.0,
       eqb-true (length known.leaves) (length known.indexes) b.1,
       eqb-true (length known.proof) (multi_length size known.indexes) a.1,
     )
 
 -- What indexes of a multi-proof say of the size.
-pub some-size : (size : ℕ) (indexes : List ℕ) → are_indexes size indexes ≡ true → 0 < size
+pub some-size : (size : ℕ) (indexes : List ℕ) → are_multi_indexes size indexes ≡ true → 0 < size
 some-size size [] is = absurd (false≢true is)
 some-size size (i ∷ rest) is =
     let w = within-all size (i ∷ rest) (omega (arith, pow_above size)) is in omega (arith, w.inside, w.rises.1)
 
 pub verdict-form : (hash : NodeHash) (root : Digest) (size : ℕ) (known : Known) → has_form size known ≡ true
-    → multi_verdict hash root size known ≡ (known_hash hash size size 0 known >>= λ top. Ok (digest_eq top root))
+    → known_verdict hash root size known ≡ (known_hash hash size size 0 known >>= λ top. Ok (digest_eq top root))
 verdict-form hash root size known form = rw (form) refl
 
 -- a check that was accepted
 pub accepted-parts : (hash : NodeHash) (root : Digest) (size : ℕ) (known : Known)
-    → multi_verdict hash root size known ≡ Ok true → (has_form size known ≡ true)
+    → known_verdict hash root size known ≡ Ok true → (has_form size known ≡ true)
     × (known_hash hash size size 0 known ≡ Ok root)
 accepted-parts hash root size known is = elim (cases_Bool (has_form size known)) [
   | inr none ↦ absurd (false≢true (refused false (rw (none) at is)))
@@ -156,7 +156,7 @@ accepted-parts hash root size known is = elim (cases_Bool (has_form size known))
 ]
 
 pub multi-bound : (hash : NodeHash) (root : Digest) (size : ℕ) (known : Known)
-    → multi_verdict hash root size known ≡ Ok true → BindsDigests hash root size known
+    → known_verdict hash root size known ≡ Ok true → BindsDigests hash root size known
 multi-bound hash root size known is empty digests long tree =
     let a = accepted-parts hash root size known is in
     let form = form-parts size known a.0 in
@@ -178,7 +178,8 @@ multi-bound hash root size known is empty digests long tree =
         clash.p,
         record {
           pair = clash.pair;
-          hashed = subst (λ n. HashesPair hash (length digests) n 0 known clash.l clash.p clash.pair) (sym long) clash.hashed;
+          hashed = subst (λ n. HashesPair hash (length digests) n 0 known clash.l clash.p clash.pair) (sym long)
+              clash.hashed;
           own = clash.own;
           tree = clash.tree;
           collide = clash.collide;

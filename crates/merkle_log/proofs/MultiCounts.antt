@@ -4,7 +4,7 @@ use Rattle.std.proofs.lemmas.Bool.{cases_lt, lt-ltb, le-ltb, eqb-true}
 use Rattle.std.proofs.lemmas.List.{length-take-le, length-drop}
 use Rattle.std.proofs.lemmas.Nat.{div-add-mod'}
 use Rattle.std.proofs.Math.Nat.{mod-eq_of_lt, mod-lt, add-mul, mul-le-mul_right}
-use Rattle.merkle_log.specs.Multi.{middle, count_below, count_around, pairs_around, are_indexes, multi_length}
+use Rattle.merkle_log.specs.Multi.{middle, count_below, count_around, pairs_around, are_multi_indexes, multi_length}
 use Rattle.merkle_log.proofs.Tests.{twice, stays, power-rises}
 use Rattle.merkle_log.proofs.Verdicts.{pow_above}
 use Rattle.merkle_log.proofs.MultiParts.{Within, within-left, within-right, within-alone, count-few, left-first, middle-first}
@@ -93,7 +93,8 @@ halves (suc below) place some =
     record {
       first = ap (λ n. 2 * place * 2 ^ n) e ∙ ap (λ n. n * 2 ^ below) (omega arith) ∙ sym (left-first below place);
       second = ap (λ n. n * 2 ^ (suc below - 1)) (omega arith);
-      middle_is = ap (λ n. middle n place) e ∙ middle-first below place ∙ ap (λ n. place * 2 ^ suc below + 2 ^ n) (sym e);
+      middle_is = ap (λ n. middle n place) e ∙ middle-first below place ∙ ap (λ n. place * 2 ^ suc below + 2 ^ n) (sym
+          e);
       two = twice below ∙ ap (λ n. 2 ^ n + 2 ^ n) (sym e);
     }
 
@@ -107,7 +108,7 @@ pub emptied : {A : Type 0} (xs : List A) (b : Bool) → b ≡ (length xs == 0) �
 emptied xs b is none = eqb-true (length xs) 0 (sym is ∙ none)
 
 -- A multi-proof has an index.
-pub some-indexes : (size : ℕ) (indexes : List ℕ) → are_indexes size indexes ≡ true → 0 < length indexes
+pub some-indexes : (size : ℕ) (indexes : List ℕ) → are_multi_indexes size indexes ≡ true → 0 < length indexes
 some-indexes size [] form = absurd cc
 some-indexes size (i ∷ rest) form = omega arith
 

@@ -8,7 +8,7 @@ use Rattle.ark_paths.specs.Pair.{Digest, digest_eq}
 use Rattle.merkle_log.specs.Append.{counted_after}
 use Rattle.merkle_log.specs.Log.{NodeHash}
 use Rattle.merkle_log.specs.Walk.{joined}
-use Rattle.merkle_log.specs.Multi.{Known, known_of, middle, count_below, count_around, pairs_around, known_hash, are_indexes, have_counts, multi_length, has_form, multi_pairs, multi_verdict}
+use Rattle.merkle_log.specs.Multi.{Known, known_of, middle, count_below, count_around, pairs_around, known_hash, are_multi_indexes, have_counts, multi_length, has_form, multi_pairs, known_verdict}
 use Rattle.merkle_log.proofs.Verdicts.{pow_above}
 use Rattle.merkle_log.proofs.MultiParts.{middle-first, within-levels}
 use Rattle.merkle_log.proofs.MultiBound.{knows, form-parts, some-size, verdict-form}
@@ -153,13 +153,13 @@ module _ {A : Type 0} (numbers : A → Digest) (size : ℕ) (indexes : List ℕ)
   form-same = ap (λ n. have_counts size indexes n (length (map numbers proof))) (length-map leaves numbers)
       ∙ ap (have_counts size indexes (length leaves)) (length-map proof numbers)
 
-  has-form : are_indexes size indexes ≡ true → length leaves ≡ length indexes
+  has-form : are_multi_indexes size indexes ≡ true → length leaves ≡ length indexes
       → length proof ≡ multi_length size indexes → has_form size (known_of numbers indexes leaves proof) ≡ true
   has-form form many few =
       form-same ∙ and_from _ _ (and_from _ _ form (eq-eqb _ _ many)) (eq-eqb _ _ few)
 
   -- how many pairs are hashed
-  pub pairs-hashed : (k : ℕ) → size ≤ 2 ^ k → are_indexes size indexes ≡ true → length leaves ≡ length indexes
+  pub pairs-hashed : (k : ℕ) → size ≤ 2 ^ k → are_multi_indexes size indexes ≡ true → length leaves ≡ length indexes
       → length proof ≡ multi_length size indexes → pairs_around size k 0 indexes
       ≡ multi_pairs size (known_of numbers indexes leaves proof)
   pairs-hashed k low form many few =
@@ -176,13 +176,13 @@ module _ {A : Type 0} (numbers : A → Digest) (size : ℕ) (indexes : List ℕ)
   no-pairs none before low = rw (form-same, none) (omega arith)
 
   pub no-verdict : (hash : NodeHash) (root : Digest) → have_counts size indexes (length leaves) (length proof) ≡ false
-      → multi_verdict hash root size (known_of numbers indexes leaves proof) ≡ Ok false
+      → known_verdict hash root size (known_of numbers indexes leaves proof) ≡ Ok false
   no-verdict hash root none = rw (form-same, none) refl
 
 module _ {A : Type 0} (numbers : A → Digest) (hash : NodeHash) (root : Digest) (size k : ℕ) (indexes : List ℕ)
-    (leaves proof : List A) (low : size ≤ 2 ^ k) (form : are_indexes size indexes ≡ true)
+    (leaves proof : List A) (low : size ≤ 2 ^ k) (form : are_multi_indexes size indexes ≡ true)
     (many : length leaves ≡ length indexes) (few : length proof ≡ multi_length size indexes) where
-  verdict-levels : multi_verdict hash root size (known_of numbers indexes leaves proof)
+  verdict-levels : known_verdict hash root size (known_of numbers indexes leaves proof)
       ≡ (known_hash hash size k 0 (known_of numbers indexes leaves proof) >>= λ top. Ok (digest_eq top root))
   verdict-levels =
       verdict-form hash root size (known_of numbers indexes leaves proof)
@@ -191,12 +191,12 @@ module _ {A : Type 0} (numbers : A → Digest) (hash : NodeHash) (root : Digest)
       low)
 
   pub verdict-refused : {e : Error} → known_hash hash size k 0 (known_of numbers indexes leaves proof) ≡ Err e
-      → multi_verdict hash root size (known_of numbers indexes leaves proof) ≡ Err e
+      → known_verdict hash root size (known_of numbers indexes leaves proof) ≡ Err e
   verdict-refused is = verdict-levels ∙ rw (is) refl
 
   pub verdict-gives : {top own : Digest} {yes : Bool}
       → known_hash hash size k 0 (known_of numbers indexes leaves proof) ≡ Ok top → own ≡ top
-      → yes ≡ digest_eq own root → multi_verdict hash root size (known_of numbers indexes leaves proof) ≡ Ok yes
+      → yes ≡ digest_eq own root → known_verdict hash root size (known_of numbers indexes leaves proof) ≡ Ok yes
   verdict-gives is same told = verdict-levels ∙ rw (is, told, same) refl
 
 -- A count of the pairs is a word.

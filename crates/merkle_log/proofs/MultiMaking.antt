@@ -9,7 +9,7 @@ use Rattle.merkle_log.specs.Edge.{all_of, path_behind}
 use Rattle.merkle_log.specs.Log.{NodeHash}
 use Rattle.merkle_log.specs.Stored.{row_pairs, IsStored, StoredValue, row_at}
 use Rattle.merkle_log.specs.Walk.{joined}
-use Rattle.merkle_log.specs.Multi.{middle, count_below, node_hash, node_hashes, put_behind, are_indexes, multi_proof}
+use Rattle.merkle_log.specs.Multi.{middle, count_below, place_hash, place_hashes, put_behind, are_multi_indexes, multi_proof}
 use Rattle.merkle_log.proofs.Tests.{twice}
 use Rattle.merkle_log.proofs.Above.{there}
 use Rattle.merkle_log.proofs.TreePairs.{node-zero}
@@ -50,7 +50,7 @@ module _ {hash : NodeHash} {rows : ℕ → List Digest} (stored : IsStored hash 
       )
 
   pub complete-hash : (empty : Digest) (size level place : ℕ) → size ≤ length (rows 0) → (place + 1) * 2 ^ level ≤ size
-      → node_hash hash empty level place (take size (rows 0)) ≡ Ok (get_or (rows level) place [])
+      → place_hash hash empty level place (take size (rows 0)) ≡ Ok (get_or (rows level) place [])
   complete-hash empty size zero place within complete =
       let long = length-take-le size (rows 0) within in
       node-zero hash [] (Ok empty) (take size (rows 0)) place (omega arith)
@@ -72,7 +72,7 @@ module _ {hash : NodeHash} {rows : ℕ → List Digest} (stored : IsStored hash 
         left-first level place,
         left-first level (place + 1),
       ))
-      ∙ ap (λ x. joined hash x (node_hash hash empty level (place + place + 1) front)) (complete-hash empty size level
+      ∙ ap (λ x. joined hash x (place_hash hash empty level (place + place + 1) front)) (complete-hash empty size level
       (place + place) within mid)
       ∙ ap (joined hash (Ok (get_or (rows level) (place + place) []))) (complete-hash empty size level
       (place + place + 1) within (omega arith))
@@ -86,7 +86,7 @@ front-long size row within = length-map (take size row) Ok ∙ length-take-le si
 
 pub node-down : (hash : NodeHash) (empty : Digest) (row : List Digest) (size level place bound : ℕ)
     → size ≤ length row → 0 < level → bound ≡ middle (level - 1) place → size ≤ bound
-    → node_hash hash empty level place (take size row) ≡ node_hash hash empty (level - 1) (2 * place) (take size row)
+    → place_hash hash empty level place (take size row) ≡ place_hash hash empty (level - 1) (2 * place) (take size row)
 node-down hash empty row size zero place bound within high is few = absurd (omega arith)
 node-down hash empty row size (suc below) place bound within high is few =
     let e : suc below - 1 ≡ below = omega arith in
@@ -97,14 +97,14 @@ node-down hash empty row size (suc below) place bound within high is few =
       ap (λ n. middle n place) e,
       front-long size row within,
     ))
-    ∙ ap (λ n. node_hash hash empty below n (take size row)) double
-    ∙ ap (λ n. node_hash hash empty n (2 * place) (take size row)) (sym e)
+    ∙ ap (λ n. place_hash hash empty below n (take size row)) double
+    ∙ ap (λ n. place_hash hash empty n (2 * place) (take size row)) (sym e)
 
 node-halves : (hash : NodeHash) (empty : Digest) (row : List Digest) (size level place bound : ℕ)
     → size ≤ length row → 0 < level → bound ≡ middle (level - 1) place → bound < size
-    → node_hash hash empty level place (take size row) ≡ joined hash
-    (node_hash hash empty (level - 1) (2 * place) (take size row))
-    (node_hash hash empty (level - 1) (2 * place + 1) (take size row))
+    → place_hash hash empty level place (take size row) ≡ joined hash
+    (place_hash hash empty (level - 1) (2 * place) (take size row))
+    (place_hash hash empty (level - 1) (2 * place + 1) (take size row))
 node-halves hash empty row size zero place bound within high is more = absurd (omega arith)
 node-halves hash empty row size (suc below) place bound within high is more =
     let e : suc below - 1 ≡ below = omega arith in
@@ -131,20 +131,20 @@ place-there stored size level place within complete =
 module _ {hash : NodeHash} {rows : ℕ → List Digest} (stored : IsStored hash rows) (empty : Digest)
     (size level place bound : ℕ) (within : size ≤ length (rows 0)) (high : 0 < level)
     (is : bound ≡ middle (level - 1) place) (more : bound < size) where
-  left-complete : node_hash hash empty (level - 1) (2 * place) (take size (rows 0))
+  left-complete : place_hash hash empty (level - 1) (2 * place) (take size (rows 0))
       ≡ Ok (get_or (rows (level - 1)) (2 * place) [])
   left-complete =
       let h = halves level place high in
       complete-hash stored empty size (level - 1) (2 * place) within (omega (arith, h.second))
 
-  pub edge-refused : {e : Error} → node_hash hash empty (level - 1) (2 * place + 1) (take size (rows 0)) ≡ Err e
-      → node_hash hash empty level place (take size (rows 0)) ≡ Err e
+  pub edge-refused : {e : Error} → place_hash hash empty (level - 1) (2 * place + 1) (take size (rows 0)) ≡ Err e
+      → place_hash hash empty level place (take size (rows 0)) ≡ Err e
   edge-refused refused =
       node-halves hash empty (rows 0) size level place bound within high is more ∙ rw (left-complete, refused) refl
 
-  pub edge-gives : {a b c : Digest} → node_hash hash empty (level - 1) (2 * place + 1) (take size (rows 0)) ≡ Ok b
+  pub edge-gives : {a b c : Digest} → place_hash hash empty (level - 1) (2 * place + 1) (take size (rows 0)) ≡ Ok b
       → a ≡ get_or (rows (level - 1)) (2 * place) [] → c ≡ b
-      → node_hash hash empty level place (take size (rows 0)) ≡ hash a c
+      → place_hash hash empty level place (take size (rows 0)) ≡ hash a c
   edge-gives last_is left_is same =
       node-halves hash empty (rows 0) size level place bound within high is more
       ∙ rw (left-complete, last_is, left_is, same) refl
@@ -200,10 +200,10 @@ behind-none xs = go (all_of xs)
 
 module _ (hash : NodeHash) (empty : Digest) (row : List Digest) (size place : ℕ) (within : size ≤ length row) where
   abbrev around : ℕ → ℕ → List ℕ → List (Outcome Digest)
-  around level place indexes = node_hashes hash empty level place indexes (take size row)
+  around level place indexes = place_hashes hash empty level place indexes (take size row)
 
   pub hashes-none : (level : ℕ) (indexes : List ℕ) → length indexes ≡ 0
-      → around level place indexes ≡ node_hash hash empty level place (take size row) ∷ []
+      → around level place indexes ≡ place_hash hash empty level place (take size row) ∷ []
   hashes-none zero [] none = refl
   hashes-none (suc level) [] none = refl
   hashes-none level (i ∷ rest) none = absurd (omega arith)
@@ -277,7 +277,7 @@ module _ (hash : NodeHash) (empty : Digest) (row : List Digest) (size place : �
 
   -- one digest more
   pub one-behind : {A : Type 0} (numbers : A → Digest) (proof : List A) (level at next : ℕ) (indexes : List ℕ) (own : A)
-      → length indexes ≡ 0 → node_hash hash empty level place (take size row) ≡ Ok (numbers own) → at < length proof
+      → length indexes ≡ 0 → place_hash hash empty level place (take size row) ≡ Ok (numbers own) → at < length proof
       → next ≡ at + 1 → put_behind (map numbers (take at proof)) (around level place indexes)
       ≡ Ok (map numbers (take next (set proof at own)))
   one-behind numbers proof level at next indexes own none known inside next_is =
@@ -285,7 +285,7 @@ module _ (hash : NodeHash) (empty : Digest) (row : List Digest) (size place : �
       ∙ rw (known, next_is, take_more_set proof at own inside, map-append) refl
 
   pub one-refused : (sofar : List Digest) (level : ℕ) (indexes : List ℕ) (e : Error) → length indexes ≡ 0
-      → node_hash hash empty level place (take size row) ≡ Err e
+      → place_hash hash empty level place (take size row) ≡ Err e
       → put_behind sofar (around level place indexes) ≡ Err e
   one-refused sofar level indexes e none known =
       ap (put_behind sofar) (hashes-none level indexes none) ∙ rw (known) refl
@@ -294,7 +294,7 @@ module _ (hash : NodeHash) (empty : Digest) (row : List Digest) (size place : �
 
 around-level : (hash : NodeHash) (empty : Digest) (row : List Digest) (size : ℕ) → size ≤ length row
     → (indexes : List ℕ) (m : ℕ) → size ≤ 2 ^ m → 0 < length indexes
-    → node_hashes hash empty (suc m) 0 indexes (take size row) ≡ node_hashes hash empty m 0 indexes (take size row)
+    → place_hashes hash empty (suc m) 0 indexes (take size row) ≡ place_hashes hash empty m 0 indexes (take size row)
 around-level hash empty row size within (i ∷ rest) m low some =
     rw (le-ltb (middle m 0) (length (there {E = Error} (take size row))) (omega (
       arith,
@@ -304,20 +304,20 @@ around-level hash empty row size within (i ∷ rest) m low some =
 around-level hash empty row size within [] m low some = absurd (omega arith)
 
 proof-levels : (hash : NodeHash) (empty : Digest) (row : List Digest) (size k : ℕ) (indexes : List ℕ)
-    → size ≤ length row → size ≤ 2 ^ k → are_indexes size indexes ≡ true
-    → multi_proof hash empty indexes (take size row) ≡ node_hashes hash empty k 0 indexes (take size row)
+    → size ≤ length row → size ≤ 2 ^ k → are_multi_indexes size indexes ≡ true
+    → multi_proof hash empty indexes (take size row) ≡ place_hashes hash empty k 0 indexes (take size row)
 proof-levels hash empty row size k indexes within low form =
-    ap (λ n. node_hashes hash empty n 0 indexes (take size row)) (length-take-le size row within)
-    ∙ sym (stays_both (λ n. node_hashes hash empty n 0 indexes (take size row)) size size k (omega (
+    ap (λ n. place_hashes hash empty n 0 indexes (take size row)) (length-take-le size row within)
+    ∙ sym (stays_both (λ n. place_hashes hash empty n 0 indexes (take size row)) size size k (omega (
       arith,
       pow_above
           size,
     )) low (λ m le. around-level hash empty row size within indexes m le (some-indexes size indexes form)))
 
 pub proof-behind : (hash : NodeHash) (empty : Digest) (row : List Digest) (size k : ℕ) (indexes : List ℕ)
-    → size ≤ length row → size ≤ 2 ^ k → are_indexes size indexes ≡ true
+    → size ≤ length row → size ≤ 2 ^ k → are_multi_indexes size indexes ≡ true
     → all_of (multi_proof hash empty indexes (take size row))
-    ≡ put_behind [] (node_hashes hash empty k 0 indexes (take size row))
+    ≡ put_behind [] (place_hashes hash empty k 0 indexes (take size row))
 proof-behind hash empty row size k indexes within low form =
     ap all_of (proof-levels hash empty row size k indexes within low form)
-    ∙ sym (behind-none (node_hashes hash empty k 0 indexes (take size row)))
+    ∙ sym (behind-none (place_hashes hash empty k 0 indexes (take size row)))

@@ -9,7 +9,7 @@ use Rattle.ark_paths.specs.Pair.{Digest, digest_eq}
 use Rattle.merkle_log.specs.Log.{NodeHash}
 use Rattle.merkle_log.specs.Trees.{node}
 use Rattle.merkle_log.specs.Walk.{joined}
-use Rattle.merkle_log.specs.Multi.{Known, middle, count_below, count_around, hashes_around, digests_at, known_hash, multi_length, has_form, multi_verdict}
+use Rattle.merkle_log.specs.Multi.{Known, middle, count_below, count_around, hashes_around, digests_at, known_hash, multi_length, has_form, known_verdict}
 use Rattle.merkle_log.specs.MultiBind.{IsMultiProof}
 use Rattle.merkle_log.proofs.Above.{there}
 use Rattle.merkle_log.proofs.TreePairs.{node-zero}
@@ -18,7 +18,8 @@ use Rattle.merkle_log.proofs.MultiParts.{Within, within-left, within-right, with
 use Rattle.merkle_log.proofs.MultiBound.{knows, some-size, verdict-form}
 
 -- the first of digests that are there
-first-there : (proof : List Digest) (x : Outcome Digest) (more : List (Outcome Digest)) → there {E = Error} proof ≡ x ∷ more
+first-there : (proof : List Digest) (x : Outcome Digest) (more : List (Outcome Digest)) → there {E = Error} proof ≡ x
+    ∷ more
     → Ok (get_or proof 0 []) ≡ x
 first-there [] x more is = absurd cc
 first-there (d ∷ proof) x more is = cc
@@ -100,7 +101,7 @@ module _ (hash : NodeHash) (root : Digest) (size : ℕ) (known : Known) (own : I
       = ap length (sym own.leaves_are) ∙ length-map known.indexes (λ index. get_or own.digests index []) in
       and_from _ _ (and_from _ _ own.form (eq-eqb _ _ many)) (eq-eqb _ _ few)
 
-  pub multi-own : multi_verdict hash root size known ≡ Ok true
+  pub multi-own : known_verdict hash root size known ≡ Ok true
   multi-own =
       let digests = own.digests in
       let high = pow_above size in

@@ -4,7 +4,7 @@ use Rattle.std.proofs.lemmas.Bool.{cases_lt, lt-ltb, le-ltb, ltb-true, ltb-false
 use Rattle.std.proofs.lemmas.List.{length-take, length-drop, length-append, take_all, take-take, drop-drop, drop-take}
 use Rattle.std.proofs.Math.Nat.{add-mul}
 use Rattle.merkle_log.specs.Trees.{tree_hash, node}
-use Rattle.merkle_log.specs.Multi.{middle, is_none, count_below, are_rising, are_indexes, hashes_around, count_around}
+use Rattle.merkle_log.specs.Multi.{middle, is_none, count_below, rise_below, are_multi_indexes, hashes_around, count_around}
 use Rattle.merkle_log.proofs.Tests.{twice, mul-twice}
 
 -- ---- rising indexes
@@ -13,10 +13,10 @@ abbrev pub Rises : ℕ → ℕ → List ℕ → Type 0
 Rises from end [] = Unit {0}
 Rises from end (i ∷ rest) = (from ≤ i) × (i < end) × Rises (suc i) end rest
 
-pub rises-true : (from end : ℕ) (indexes : List ℕ) → are_rising from end indexes ≡ true → Rises from end indexes
+pub rises-true : (from end : ℕ) (indexes : List ℕ) → rise_below from end indexes ≡ true → Rises from end indexes
 rises-true from end [] is = tt
 rises-true from end (i ∷ rest) is =
-    let a = and_parts (not (nat_lt i from) && nat_lt i end) (are_rising (suc i) end rest) is in
+    let a = and_parts (not (nat_lt i from) && nat_lt i end) (rise_below (suc i) end rest) is in
     let b = and_parts (not (nat_lt i from)) (nat_lt i end) a.0 in (
       ltb-false i from (not-true (nat_lt i from) b.0),
       ltb-true i end b.1,
@@ -93,10 +93,10 @@ within-alone {size} {level} {place} {indexes} w few = record {
   rises = rw left-first at w.rises;
 }
 
-pub within-levels : (size k : ℕ) (indexes : List ℕ) → size ≤ 2 ^ k → are_indexes size indexes ≡ true
+pub within-levels : (size k : ℕ) (indexes : List ℕ) → size ≤ 2 ^ k → are_multi_indexes size indexes ≡ true
     → Within size k 0 indexes
 within-levels size k indexes high is =
-    let a = and_parts (not (is_none indexes)) (are_rising 0 size indexes) is in
+    let a = and_parts (not (is_none indexes)) (rise_below 0 size indexes) is in
     let zero_first : 0 ≡ 0 * 2 ^ k = omega arith in
     record {
       end = size;
@@ -105,7 +105,7 @@ within-levels size k indexes high is =
       rises = rw zero_first at (rises-true 0 size indexes a.1);
     }
 
-pub within-all : (size : ℕ) (indexes : List ℕ) → size ≤ 2 ^ size → are_indexes size indexes ≡ true
+pub within-all : (size : ℕ) (indexes : List ℕ) → size ≤ 2 ^ size → are_multi_indexes size indexes ≡ true
     → Within size size 0 indexes
 within-all size indexes high is = within-levels size size indexes high is
 
@@ -120,8 +120,15 @@ module _ {A : Type 0} (join : A → A → A) (none : A) where
   node-both level place xs more =
       let from = place * 2 ^ suc level in
       let rest = drop from xs in
-      let more_there : 2 ^ level < length (take (2 ^ suc level) rest) = omega
-      (arith, length-take (2 ^ suc level) rest, length-drop from xs, middle-first level place, twice level, pow_pos level) in
+      let more_there : 2 ^ level < length (take (2 ^ suc level) rest) = omega (
+        arith,
+        length-take (2 ^ suc level) rest,
+        length-drop from xs,
+        middle-first level place,
+        twice level,
+        pow_pos
+            level,
+      ) in
       let left : take (2 ^ level) (take (2 ^ suc level) rest) ≡ take (2 ^ level) (drop ((place + place) * 2 ^ level) xs)
       = take-take (2 ^ level) (2 ^ suc level) rest (omega (arith, twice level))
       ∙ ap (λ n. take (2 ^ level) (drop n xs)) (left-first level place) in

@@ -27,13 +27,13 @@ count_below bound [] = 0
 count_below bound (index ∷ rest) = if nat_lt index bound then suc (count_below bound rest) else 0
 
 -- whether indexes rise, from one number on and below another
-abbrev pub are_rising : ℕ → ℕ → List ℕ → Bool
-are_rising from end [] = true
-are_rising from end (index ∷ rest) = not (nat_lt index from) && nat_lt index end && are_rising (suc index) end rest
+abbrev pub rise_below : ℕ → ℕ → List ℕ → Bool
+rise_below from end [] = true
+rise_below from end (index ∷ rest) = not (nat_lt index from) && nat_lt index end && rise_below (suc index) end rest
 
 -- whether these are the indexes of a multi-proof: one at least, rising, each below the size
-abbrev pub are_indexes : ℕ → List ℕ → Bool
-are_indexes size indexes = not (is_none indexes) && are_rising 0 size indexes
+abbrev pub are_multi_indexes : ℕ → List ℕ → Bool
+are_multi_indexes size indexes = not (is_none indexes) && rise_below 0 size indexes
 
 -- the leaves' digests at indexes
 abbrev pub digests_at : List Digest → List ℕ → List Digest
@@ -76,12 +76,12 @@ pairs_around size (suc level) place indexes =
     else (pairs_around size level (place + place) indexes))
 
 -- the hash of a place of a list's tree
-abbrev pub node_hash : NodeHash → Digest → ℕ → ℕ → List Digest → Outcome Digest
-node_hash hash empty level place digests = node (joined hash) (Ok empty) level place (map Ok digests)
+abbrev pub place_hash : NodeHash → Digest → ℕ → ℕ → List Digest → Outcome Digest
+place_hash hash empty level place digests = node (joined hash) (Ok empty) level place (map Ok digests)
 
 -- the hashes around indexes below a place of a list's tree
-abbrev pub node_hashes : NodeHash → Digest → ℕ → ℕ → List ℕ → List Digest → List (Outcome Digest)
-node_hashes hash empty level place indexes digests =
+abbrev pub place_hashes : NodeHash → Digest → ℕ → ℕ → List ℕ → List Digest → List (Outcome Digest)
+place_hashes hash empty level place indexes digests =
     hashes_around (joined hash) (Ok empty) level place indexes (map Ok digests)
 
 -- hashes behind digests, or the first error
@@ -94,7 +94,7 @@ HoldsAll holds size = (level place : ℕ) → (place + 1) * 2 ^ level ≤ size �
 
 -- the multi-proof of indexes of a list
 abbrev pub multi_proof : NodeHash → Digest → List ℕ → List Digest → List (Outcome Digest)
-multi_proof hash empty indexes digests = node_hashes hash empty (length digests) 0 indexes digests
+multi_proof hash empty indexes digests = place_hashes hash empty (length digests) 0 indexes digests
 
 -- how many digests it has: a function of the size and the indexes alone
 abbrev pub multi_length : ℕ → List ℕ → ℕ
@@ -114,9 +114,10 @@ known_of numbers indexes leaves proof =
     record { indexes = indexes; leaves = map numbers leaves; proof = map numbers proof }
 
 -- the digest of a place: one that was hashed, or else the one that is known for it
-abbrev pub digest_of : {A : Type 0} → (A → Digest) → Known → Option A → Digest
-digest_of numbers known None = if is_none known.indexes then (get_or known.proof 0 []) else (get_or known.leaves 0 [])
-digest_of numbers known (Some hashed) = numbers hashed
+abbrev pub digest_known : {A : Type 0} → (A → Digest) → Known → Option A → Digest
+digest_known numbers known None = if is_none known.indexes then (get_or known.proof 0 []) else (get_or known.leaves 0
+    [])
+digest_known numbers known (Some hashed) = numbers hashed
 
 -- the part of it for the first of the two places below
 abbrev pub known_left : ℕ → ℕ → Known → Known
@@ -146,7 +147,7 @@ known_hash hash size (suc level) place known =
 -- whether these can be the indexes of a multi-proof, with so many leaves, one for each, and so many digests as it has
 abbrev pub have_counts : ℕ → List ℕ → ℕ → ℕ → Bool
 have_counts size indexes leaves proof =
-    are_indexes size indexes && (leaves == length indexes) && (proof == multi_length size indexes)
+    are_multi_indexes size indexes && (leaves == length indexes) && (proof == multi_length size indexes)
 
 abbrev pub has_form : ℕ → Known → Bool
 has_form size known = have_counts size known.indexes (length known.leaves) (length known.proof)
@@ -156,8 +157,8 @@ abbrev pub multi_pairs : ℕ → Known → ℕ
 multi_pairs size known = if has_form size known then (length known.leaves + length known.proof - 1) else 0
 
 -- whether a multi-proof leads from leaves' digests at indexes to the root of a size
-abbrev pub multi_verdict : NodeHash → Digest → ℕ → Known → Outcome Bool
-multi_verdict hash root size known =
+abbrev pub known_verdict : NodeHash → Digest → ℕ → Known → Outcome Bool
+known_verdict hash root size known =
     if has_form size known then (known_hash hash size size 0 known >>= λ top. Ok (digest_eq top root))
     else (Ok false)
 
@@ -166,13 +167,13 @@ abbrev pub leaves_verdict : {A : Type 0} → Hashes A → Digest → ℕ → Lis
 leaves_verdict hashes root size indexes leaves proof =
     if have_counts size indexes (length leaves) (length proof)
     then (all_hashes hashes.leaf leaves >>= λ digests.
-    multi_verdict hashes.pair.upper root size (record { indexes = indexes; leaves = digests; proof = proof }))
+    known_verdict hashes.pair.upper root size (record { indexes = indexes; leaves = digests; proof = proof }))
     else (Ok false)
 
 -- the verdict on a proof that was read, where these are indexes of one and each has a leaf
 abbrev pub received_leaves : {A : Type 0} → Hashes A → Digest → ℕ → List ℕ → List A → Outcome (List Digest)
     → Outcome Bool
 received_leaves hashes root size indexes leaves proof =
-    if are_indexes size indexes && (length leaves == length indexes)
+    if are_multi_indexes size indexes && (length leaves == length indexes)
     then (proof >>= leaves_verdict hashes root size indexes leaves)
     else (Err (SerializationError InvalidData))

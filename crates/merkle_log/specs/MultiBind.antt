@@ -5,7 +5,7 @@ use Rattle.ark_paths.specs.Pair.{Digest, Hashes}
 use Rattle.ark_paths.specs.Root.{all_hashes}
 use Rattle.merkle_log.specs.Collision.{Collide, IsTreePair}
 use Rattle.merkle_log.specs.Log.{NodeHash, merkle_tree_hash}
-use Rattle.merkle_log.specs.Multi.{Known, middle, known_left, known_right, known_hash, digests_at, multi_proof, are_indexes}
+use Rattle.merkle_log.specs.Multi.{Known, middle, known_left, known_right, known_hash, digests_at, multi_proof, are_multi_indexes}
 
 -- From what is known below a place, whose level and place come first, the check hashes this pair below another place:
 -- below this one itself, or below one that stands below it.
@@ -51,7 +51,7 @@ pub record IsMultiProof (hash : NodeHash) (root : Digest) (size : ℕ) (known : 
   pub empty : Digest
   pub digests : List Digest
   pub size_is : length digests ≡ size
-  pub form : are_indexes size known.indexes ≡ true
+  pub form : are_multi_indexes size known.indexes ≡ true
   pub root_is : merkle_tree_hash hash empty digests ≡ Ok root
   pub leaves_are : digests_at digests known.indexes ≡ known.leaves
   pub proof_is : multi_proof hash empty known.indexes digests ≡ map Ok known.proof

@@ -3,7 +3,7 @@
 ghost use Rattle.std.specs.Prelude.{◌≡◌, ◌<◌, ◌≤◌, ◌+◌, ◌-◌, ◌*◌, ◌^◌, length, IfOk, OnOk};
 ghost use Rattle.merkle_log.specs.Append.{counted_after};
 ghost use Rattle.merkle_log.specs.Given.{GivesBy};
-ghost use Rattle.merkle_log.specs.Multi.{count_around, digest_of, known_hash, known_of, multi_pairs, multi_verdict, pairs_around};
+ghost use Rattle.merkle_log.specs.Multi.{count_around, digest_known, known_hash, known_of, multi_pairs, known_verdict, pairs_around};
 
 use crate::multi_parts::{count_below, have_counts, levels_above, middle_of};
 use crate::nodes::NodeHasher;
@@ -11,7 +11,7 @@ use ark_base::serialize::DigestItem;
 use ark_paths::digests::are_same;
 
 // Returns the digest of a place: one that was hashed, or else the one that is known for it.
-fn digest_of<'a, D: DigestItem>(
+fn digest_known<'a, D: DigestItem>(
     indexes: &[usize],
     leaves: &'a [D],
     proof: &'a [D],
@@ -19,7 +19,7 @@ fn digest_of<'a, D: DigestItem>(
 ) -> &'a D
     requires leaves { length leaves.now ≡ length indexes.now }
     requires proof { length indexes.now ≡ 0 → 0 < length proof.now }
-    ensures { D.numbers result.now ≡ digest_of D.numbers
+    ensures { D.numbers result.now ≡ digest_known D.numbers
         (known_of D.numbers indexes.now leaves.now proof.now) hashed.now }
 {
     match hashed {
@@ -52,7 +52,7 @@ fn hash_known<D: DigestItem, H: NodeHasher<D>>(
     requires fits { length proof.now < 2 ^ 64 }
     requires counted { H.counted hasher.old < 2 ^ 64 }
     ensures hashed { let known = known_of D.numbers indexes.now leaves.now proof.now in
-        GivesBy H.why (λ made. digest_of D.numbers known made.0)
+        GivesBy H.why (λ made. digest_known D.numbers known made.0)
         (known_hash (H.hash hasher.old) size level place known) result }
     ensures used { IfOk result (λ made. made.1 ≡ count_around size level place indexes.now) }
     ensures within { IfOk result (λ made. made.1 ≤ length proof.now) }
@@ -92,8 +92,8 @@ fn hash_known<D: DigestItem, H: NodeHasher<D>>(
         &leaves[count..],
         rest,
     )?;
-    let left_digest = digest_of(first, &leaves[..count], proof, &left);
-    let right_digest = digest_of(last, &leaves[count..], rest, &right);
+    let left_digest = digest_known(first, &leaves[..count], proof, &left);
+    let right_digest = digest_known(last, &leaves[count..], rest, &right);
     Ok((Some(hasher.node(left_digest, right_digest)?), used + more))
 }
 
@@ -112,7 +112,7 @@ pub fn are_shown<D: DigestItem, H: NodeHasher<D>>(
     requires { H.counted hasher.old < 2 ^ 64 }
     ensures answer { let known = known_of D.numbers indexes.now leaves.now proof.now in
         GivesBy H.why (λ shown. shown)
-        (multi_verdict (H.hash hasher.old) (D.numbers root.now) size known) result }
+        (known_verdict (H.hash hasher.old) (D.numbers root.now) size known) result }
 
     // It hashes one pair fewer than the leaves and the proof have digests.
     ensures counts { let known = known_of D.numbers indexes.now leaves.now proof.now in
@@ -123,5 +123,5 @@ pub fn are_shown<D: DigestItem, H: NodeHasher<D>>(
         return Ok(false);
     }
     let (hashed, _) = hash_known(hasher, size, levels_above(size), 0, indexes, leaves, proof)?;
-    Ok(are_same(digest_of(indexes, leaves, proof, &hashed), root))
+    Ok(are_same(digest_known(indexes, leaves, proof, &hashed), root))
 }

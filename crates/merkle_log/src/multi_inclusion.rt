@@ -2,12 +2,12 @@
 
 ghost use Rattle.std.specs.Prelude.{◌≡◌, true, map, IfOk, Ok};
 ghost use Rattle.ark_base.specs.Outcome.{Answers, AnswersBy};
-ghost use Rattle.merkle_log.specs.Multi.{known_of, leaves_verdict, multi_length, multi_pairs, multi_verdict, received_leaves};
+ghost use Rattle.merkle_log.specs.Multi.{known_of, leaves_verdict, multi_length, multi_pairs, known_verdict, received_leaves};
 ghost use Rattle.merkle_log.specs.MultiBind.{BindsDigests, BindsLogLeaves, IsLeavesProof, IsMultiProof, ShowsLogLeaves};
 ghost use Rattle.merkle_log.specs.Received.{digests_in};
 
 use crate::multi_check::are_shown;
-use crate::multi_parts::{are_indexes, have_counts, multi_length};
+use crate::multi_parts::{are_multi_indexes, have_counts, multi_length};
 use crate::received::read_digests;
 use crate::refusing::Refusing;
 use ark_base::error::{Error, SerializationError};
@@ -64,7 +64,7 @@ pub fn verify_multi_inclusion_digests<D: DigestItem, T: TreeHasher<D, D>>(
     digests: &[D],
     proof: &[D],
 ) -> Result<bool, Error>
-    ensures answer { Answers (multi_verdict (T.hashes hasher.now).pair.upper (D.numbers root.now)
+    ensures answer { Answers (known_verdict (T.hashes hasher.now).pair.upper (D.numbers root.now)
         size (known_of D.numbers indexes.now digests.now proof.now)) result }
 
     // In each list of this size with this root the digests stand at the indexes, or below some place that is named the check's
@@ -94,7 +94,7 @@ pub fn verify_multi_inclusion_digests_counting<D: DigestItem, T: TreeHasher<D, D
     digests: &[D],
     proof: &[D],
 ) -> Result<(bool, usize), Error>
-    ensures answer { AnswersBy (λ counted. counted.0) (multi_verdict
+    ensures answer { AnswersBy (λ counted. counted.0) (known_verdict
         (T.hashes hasher.now).pair.upper (D.numbers root.now) size
         (known_of D.numbers indexes.now digests.now proof.now)) result }
     ensures count { IfOk result (λ counted. counted.1 ≡ multi_pairs size
@@ -128,7 +128,7 @@ pub fn verify_multi_inclusion_bytes<D: DigestItem, T: TreeHasher<D, D>>(
         (D.numbers root.now) size indexes.now leaves.now (digests_in D.reads
         (λ value. D.numbers_of (D.spelling value)) (multi_length size indexes.now) bytes.now)) }
 {
-    if !are_indexes(size, indexes) || leaves.len() != indexes.len() {
+    if !are_multi_indexes(size, indexes) || leaves.len() != indexes.len() {
         return Err(Error::SerializationError(SerializationError::InvalidData));
     }
     let proof = read_digests(alloc, bytes, multi_length(size, indexes) as u64)?;

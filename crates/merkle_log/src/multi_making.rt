@@ -5,7 +5,7 @@ ghost use Rattle.std.specs.Prelude.{◌≡◌, ◌<◌, ◌≤◌, ◌+◌, ◌*
 ghost use Rattle.ark_paths.specs.Pair.{Digest};
 ghost use Rattle.merkle_log.specs.Edge.{all_of};
 ghost use Rattle.merkle_log.specs.Given.{GivesBy};
-ghost use Rattle.merkle_log.specs.Multi.{are_indexes, count_around, HoldsAll, multi_length, multi_proof, node_hash, node_hashes, put_behind};
+ghost use Rattle.merkle_log.specs.Multi.{are_multi_indexes, count_around, HoldsAll, multi_length, multi_proof, place_hash, place_hashes, put_behind};
 ghost use Rattle.merkle_log.specs.Stored.{row_at, IsStored};
 
 use crate::multi_parts::{count_below, is_complete, levels_above, middle_of};
@@ -27,7 +27,7 @@ fn digest_at<D: DigestItem, R: Rows<D>, H: NodeHasher<D>>(
     requires within { size ≤ length (row_at (R.stored rows.now) 0) }
     requires held { HoldsAll (R.Holds rows.now) size }
     ensures digest { IsStored (H.hash hasher.old) (row_at (R.stored rows.now)) → (empty : Digest)
-        → GivesBy H.why D.numbers (node_hash (H.hash hasher.old) empty level place
+        → GivesBy H.why D.numbers (place_hash (H.hash hasher.old) empty level place
         (take size (row_at (R.stored rows.now) 0))) result }
     ensures same { H.hash hasher.new ≡ H.hash hasher.old }
 {
@@ -63,7 +63,7 @@ fn put_around<D: DigestItem, R: Rows<D>, H: NodeHasher<D>>(
     requires fits { length proof.old < 2 ^ 64 }
     ensures put { IsStored (H.hash hasher.old) (row_at (R.stored rows.now)) → (empty : Digest)
         → GivesBy H.why (λ next. map D.numbers (take next proof.new))
-        (put_behind (map D.numbers (take at proof.old)) (node_hashes (H.hash hasher.old) empty level
+        (put_behind (map D.numbers (take at proof.old)) (place_hashes (H.hash hasher.old) empty level
         place indexes.now (take size (row_at (R.stored rows.now) 0)))) result }
     ensures next { IfOk result (λ next. next ≡ at + count_around size level place indexes.now) }
     ensures long { length proof.new ≡ length proof.old }
@@ -105,7 +105,7 @@ pub fn multi_proof_of<D: DigestItem, R: Rows<D>, H: NodeHasher<D>>(
     indexes: &[usize],
     proof: &mut [D],
 ) -> Result<(), H::Refusal>
-    requires indexes { are_indexes size indexes.now ≡ true }
+    requires indexes { are_multi_indexes size indexes.now ≡ true }
     requires within { size ≤ length (row_at (R.stored rows.now) 0) }
     requires held { HoldsAll (R.Holds rows.now) size }
     requires room { length proof.old ≡ multi_length size indexes.now }

@@ -1,7 +1,7 @@
 //! The places of a log's tree that a multi-proof speaks of, and how many digests it has.
 
 ghost use Rattle.std.specs.Prelude.{◌≡◌, ◌<◌, ◌≤◌, ◌+◌, ◌-◌, ◌*◌, ◌^◌, ℕ, true, false, length};
-ghost use Rattle.merkle_log.specs.Multi.{are_indexes, are_rising, count_around, count_below, have_counts, middle, multi_length};
+ghost use Rattle.merkle_log.specs.Multi.{are_multi_indexes, rise_below, count_around, count_below, have_counts, middle, multi_length};
 
 /// Returns the first leaf of the second of the two places below a place, of which the level is given.
 pub fn middle_of(level: usize, place: usize) -> usize
@@ -34,8 +34,8 @@ pub fn count_below(bound: usize, indexes: &[usize]) -> usize
 }
 
 // Returns whether indexes rise, each below a number.
-fn are_rising(end: usize, indexes: &[usize]) -> bool
-    ensures { result ≡ are_rising 0 end indexes.now }
+fn rise_below(end: usize, indexes: &[usize]) -> bool
+    ensures { result ≡ rise_below 0 end indexes.now }
 {
     let mut from = 0;
     for index in indexes {
@@ -48,10 +48,10 @@ fn are_rising(end: usize, indexes: &[usize]) -> bool
 }
 
 /// Returns whether these are the indexes of a multi-proof: one at least, rising, each below the size.
-pub fn are_indexes(size: usize, indexes: &[usize]) -> bool
-    ensures { result ≡ are_indexes size indexes.now }
+pub fn are_multi_indexes(size: usize, indexes: &[usize]) -> bool
+    ensures { result ≡ are_multi_indexes size indexes.now }
 {
-    !indexes.is_empty() && are_rising(size, indexes)
+    !indexes.is_empty() && rise_below(size, indexes)
 }
 
 /// Returns how many levels stand above so many leaves, one at least: the root is one place that many levels up.
@@ -103,11 +103,11 @@ pub fn multi_length(size: usize, indexes: &[usize]) -> usize
 /// for each index, and as many digests as the proof has.
 pub fn have_counts(size: usize, indexes: &[usize], leaves: usize, proof: usize) -> bool
     ensures form { result ≡ have_counts size indexes.now leaves proof }
-    ensures indexes { result ≡ true → are_indexes size indexes.now ≡ true }
+    ensures indexes { result ≡ true → are_multi_indexes size indexes.now ≡ true }
     ensures leaves { result ≡ true → leaves ≡ length indexes.now }
     ensures proof { result ≡ true → proof ≡ multi_length size indexes.now }
 {
-    if !are_indexes(size, indexes) {
+    if !are_multi_indexes(size, indexes) {
         return false;
     }
     leaves == indexes.len() && proof == multi_length(size, indexes)

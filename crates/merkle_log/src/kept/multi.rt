@@ -6,7 +6,7 @@ ghost use Rattle.ark_paths.specs.Pair.{Digest};
 ghost use Rattle.ark_trees.specs.Rfc6962.{node_of};
 ghost use Rattle.merkle_log.specs.Edge.{all_of};
 ghost use Rattle.merkle_log.specs.Kept.{Keeps};
-ghost use Rattle.merkle_log.specs.Multi.{are_indexes, multi_length, multi_proof};
+ghost use Rattle.merkle_log.specs.Multi.{are_multi_indexes, multi_length, multi_proof};
 
 use crate::kept::Kept;
 use crate::kept::node::KeptNodes;
@@ -18,7 +18,7 @@ impl<'a> Kept<'a> {
     ///
     /// If the memory is not that of a log, it is some digests.
     pub fn write_multi_proof(&self, indexes: &[usize], proof: &mut [[u8; 32]])
-        requires indexes { are_indexes self.now.size indexes.now ≡ true }
+        requires indexes { are_multi_indexes self.now.size indexes.now ≡ true }
         requires room { length proof.old ≡ multi_length self.now.size indexes.now }
         ensures { (leaves : List Digest) → self.now.size ≤ length leaves
             → Keeps leaves self.now.digests → all_of (multi_proof node_of (sha256 []) indexes.now

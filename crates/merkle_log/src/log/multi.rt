@@ -6,7 +6,7 @@ ghost use Rattle.ark_paths.specs.Pair.{Digest};
 ghost use Rattle.ark_paths.specs.Rows.{digests_of};
 ghost use Rattle.merkle_log.specs.Edge.{all_of};
 ghost use Rattle.merkle_log.specs.Log.{LogValue, root_at};
-ghost use Rattle.merkle_log.specs.Multi.{are_indexes, digests_at, multi_proof, multi_verdict};
+ghost use Rattle.merkle_log.specs.Multi.{are_multi_indexes, digests_at, multi_proof, known_verdict};
 
 use crate::digests::blank_digests;
 use crate::log::Log;
@@ -25,7 +25,7 @@ fn multi_proof_in<D: DigestItem, T: TreeHasher<D, D>>(
     size: usize,
     indexes: &[usize],
 ) -> Result<Vec<D>, Error>
-    requires indexes { are_indexes size indexes.now ≡ true }
+    requires indexes { are_multi_indexes size indexes.now ≡ true }
     requires within { size ≤ length log.now.digests }
     ensures { AnswersBy (digests_of D.numbers)
         (all_of (multi_proof ((T.hashes log.now.hasher).pair.upper) log.now.empty indexes.now
@@ -39,14 +39,14 @@ fn multi_proof_in<D: DigestItem, T: TreeHasher<D, D>>(
 
 impl<D: DigestItem, T: TreeHasher<D, D>> Log<D, T> {
     /// Returns one proof that leaves stand at indexes of the first ones: the hashes of the largest subtrees that hold none of the
-    /// indexes, from left to right. The indexes rise, and there is one at least: `are_indexes` tells. Errors: those of `root`.
+    /// indexes, from left to right. The indexes rise, and there is one at least: `are_multi_indexes` tells. Errors: those of `root`.
     pub fn multi_inclusion_proof(
         &self,
         alloc: Global,
         size: usize,
         indexes: &[usize],
     ) -> Result<Vec<D>, Error>
-        requires indexes { are_indexes size indexes.now ≡ true }
+        requires indexes { are_multi_indexes size indexes.now ≡ true }
         requires within { size ≤ length self.now.digests }
         ensures proof { AnswersBy (digests_of D.numbers)
             (all_of (multi_proof ((T.hashes self.now.hasher).pair.upper) self.now.empty indexes.now
@@ -56,7 +56,7 @@ impl<D: DigestItem, T: TreeHasher<D, D>> Log<D, T> {
         ensures accepted { let hash = (T.hashes self.now.hasher).pair.upper in
             let own = digests_at (take size self.now.digests) indexes.now in
             IfOk result (λ proof. (root : Digest) → root_at hash self.now size ≡ Ok root
-            → multi_verdict hash root size (record {
+            → known_verdict hash root size (record {
               indexes = indexes.now;
               leaves = own;
               proof = digests_of D.numbers proof;

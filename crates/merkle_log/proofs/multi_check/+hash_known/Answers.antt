@@ -116,9 +116,11 @@ pub returns-in_err-left-clause-hashed : goal.returns-in_err-left-clause-hashed
 returns-in_err-left-clause-hashed g t c =
     let some = filled c.args.indexes.now c.is_empty.result c.is_empty.ensures c.if-is_empty.false in
     given_on _ _ _ c.from_residual.result c.in_err-left.field-0.0 c.from_residual.ensures.1 c.in_err-left.ensures.hashed
-    (λ refused. left-refused c.args.size c.args.level c.args.place c.middle_of-bound.result c.args.indexes.now (omega arith)
+    (λ refused. left-refused c.args.size c.args.level c.args.place c.middle_of-bound.result c.args.indexes.now (omega
+    arith)
     some c.middle_of-bound.ensures c.if-bound-size.false c.requires.inside c.count_below-count.result
-    c.count_below-count.ensures.count g.D.Numbered.numbers (g.H.NodeHasher.hash c.args.hasher.now) c.args.leaves.now c.args.proof.now refused)
+    c.count_below-count.ensures.count g.D.Numbered.numbers (g.H.NodeHasher.hash c.args.hasher.now) c.args.leaves.now
+    c.args.proof.now refused)
 
 pub hash_known-requires-3 : goal.hash_known-requires-3
 hash_known-requires-3 g t c κs lives =
@@ -182,13 +184,15 @@ returns-in_err-right-clause-hashed g t c =
     let some = filled c.args.indexes.now c.is_empty.result c.is_empty.ensures c.if-is_empty.false in
     given_on _ _ _ c.from_residual-in_err-right.result c.in_err-right.field-0.0 c.from_residual-in_err-right.ensures.1
     (rw (c.in_ok-left.ensures.same) at c.in_err-right.ensures.hashed)
-    (λ refused. right-refused c.args.size c.args.level c.args.place c.middle_of-bound.result c.args.indexes.now (omega arith)
+    (λ refused. right-refused c.args.size c.args.level c.args.place c.middle_of-bound.result c.args.indexes.now (omega
+    arith)
     some c.middle_of-bound.ensures c.if-bound-size.false c.requires.inside c.count_below-count.result
-    c.count_below-count.ensures.count g.D.Numbered.numbers (g.H.NodeHasher.hash c.args.hasher.now) c.args.leaves.now c.args.proof.now
+    c.count_below-count.ensures.count g.D.Numbered.numbers (g.H.NodeHasher.hash c.args.hasher.now) c.args.leaves.now
+    c.args.proof.now
     c.in_ok-left.used c.in_ok-left.ensures.used c.in_ok-left.ensures.hashed refused)
 
-pub digest_of-left_digest-requires-clause-proof : goal.digest_of-left_digest-requires-clause-proof
-digest_of-left_digest-requires-clause-proof g t c = λ none.
+pub digest_known-left_digest-requires-clause-proof : goal.digest_known-left_digest-requires-clause-proof
+digest_known-left_digest-requires-clause-proof g t c = λ none.
     omega (
       arith,
       c.in_ok-left.ensures.used,
@@ -197,8 +201,8 @@ digest_of-left_digest-requires-clause-proof g t c = λ none.
           (2 * c.args.place) (take c.count_below-count.result c.args.indexes.now),
     )
 
-pub digest_of-right_digest-requires-clause-proof : goal.digest_of-right_digest-requires-clause-proof
-digest_of-right_digest-requires-clause-proof g t c = λ none.
+pub digest_known-right_digest-requires-clause-proof : goal.digest_known-right_digest-requires-clause-proof
+digest_known-right_digest-requires-clause-proof g t c = λ none.
     omega (
       arith,
       c.in_ok-right.ensures.used,
@@ -213,11 +217,13 @@ returns-in_err-node-clause-hashed g t c =
     let some = filled c.args.indexes.now c.is_empty.result c.is_empty.ensures c.if-is_empty.false in
     given_on _ _ _ c.from_residual-in_err-node.result c.in_err-node.field-0.0 c.from_residual-in_err-node.ensures.1
     (rw (c.in_ok-right.ensures.same, c.in_ok-left.ensures.same) at c.in_err-node.ensures.answer)
-    (λ refused. both-gives c.args.size c.args.level c.args.place c.middle_of-bound.result c.args.indexes.now (omega arith)
+    (λ refused. both-gives c.args.size c.args.level c.args.place c.middle_of-bound.result c.args.indexes.now (omega
+    arith)
     some c.middle_of-bound.ensures c.if-bound-size.false c.requires.inside c.count_below-count.result
-    c.count_below-count.ensures.count g.D.Numbered.numbers (g.H.NodeHasher.hash c.args.hasher.now) c.args.leaves.now c.args.proof.now
+    c.count_below-count.ensures.count g.D.Numbered.numbers (g.H.NodeHasher.hash c.args.hasher.now) c.args.leaves.now
+    c.args.proof.now
     c.in_ok-left.used c.in_ok-left.ensures.used c.in_ok-left.ensures.hashed (rw (c.in_ok-left.ensures.same) at
-    c.in_ok-right.ensures.hashed) c.digest_of-left_digest.ensures c.digest_of-right_digest.ensures ∙ refused)
+    c.in_ok-right.ensures.hashed) c.digest_known-left_digest.ensures c.digest_known-right_digest.ensures ∙ refused)
 
 pub overflow_add-result : goal.overflow_add-result
 overflow_add-result g t c =
@@ -236,9 +242,10 @@ returns-clause-hashed g t c =
     let some = filled c.args.indexes.now c.is_empty.result c.is_empty.ensures c.if-is_empty.false in
     both-gives c.args.size c.args.level c.args.place c.middle_of-bound.result c.args.indexes.now (omega arith)
     some c.middle_of-bound.ensures c.if-bound-size.false c.requires.inside c.count_below-count.result
-    c.count_below-count.ensures.count g.D.Numbered.numbers (g.H.NodeHasher.hash c.args.hasher.now) c.args.leaves.now c.args.proof.now
+    c.count_below-count.ensures.count g.D.Numbered.numbers (g.H.NodeHasher.hash c.args.hasher.now) c.args.leaves.now
+    c.args.proof.now
     c.in_ok-left.used c.in_ok-left.ensures.used c.in_ok-left.ensures.hashed (rw (c.in_ok-left.ensures.same) at
-    c.in_ok-right.ensures.hashed) c.digest_of-left_digest.ensures c.digest_of-right_digest.ensures
+    c.in_ok-right.ensures.hashed) c.digest_known-left_digest.ensures c.digest_known-right_digest.ensures
     ∙ (rw (c.in_ok-right.ensures.same, c.in_ok-left.ensures.same) at c.in_ok-node.ensures.answer)
 
 pub returns-clause-used : goal.returns-clause-used

@@ -8,7 +8,12 @@ use Rattle.merkle_log.proofs.multi_check.are_shown.Goals as goal
 pub hash_known-requires-clause-proof : goal.hash_known-requires-clause-proof
 hash_known-requires-clause-proof g c =
     let told = c.if-not-have_counts.false in
-    omega (arith, c.have_counts.ensures.proof told, around-levels c.args.size c.levels_above.result c.args.indexes.now c.levels_above.ensures.covers)
+    omega (
+      arith,
+      c.have_counts.ensures.proof told,
+      around-levels c.args.size c.levels_above.result c.args.indexes.now
+          c.levels_above.ensures.covers,
+    )
 
 pub returns-in_err-hashed-clause-answer : goal.returns-in_err-hashed-clause-answer
 returns-in_err-hashed-clause-answer g c =
@@ -16,7 +21,8 @@ returns-in_err-hashed-clause-answer g c =
     given_on _ _ _ c.from_residual.result c.in_err-hashed.field-0.0 c.from_residual.ensures.1
     c.in_err-hashed.ensures.hashed (λ refused. verdict-refused g.D.Numbered.numbers
     (g.H.NodeHasher.hash c.args.hasher.now) (g.D.Numbered.numbers c.args.root.now) c.args.size c.levels_above.result
-    c.args.indexes.now c.args.leaves.now c.args.proof.now c.levels_above.ensures.covers (c.have_counts.ensures.indexes told) (c.have_counts.ensures.leaves
+    c.args.indexes.now c.args.leaves.now c.args.proof.now c.levels_above.ensures.covers (c.have_counts.ensures.indexes
+    told) (c.have_counts.ensures.leaves
     told) (c.have_counts.ensures.proof told)
     refused)
 
@@ -26,7 +32,7 @@ returns-clause-answer g c =
     verdict-gives g.D.Numbered.numbers (g.H.NodeHasher.hash c.args.hasher.now) (g.D.Numbered.numbers c.args.root.now)
     c.args.size c.levels_above.result c.args.indexes.now c.args.leaves.now c.args.proof.now
     c.levels_above.ensures.covers (c.have_counts.ensures.indexes told) (c.have_counts.ensures.leaves
-    told) (c.have_counts.ensures.proof told) c.in_ok-hashed.ensures.hashed c.digest_of.ensures
+    told) (c.have_counts.ensures.proof told) c.in_ok-hashed.ensures.hashed c.digest_known.ensures
     c.are_same.ensures
 
 pub returns-clause-counts : goal.returns-clause-counts

@@ -11,7 +11,8 @@ returns-then-not-have_counts-clause-answer g c = leaves-uncounted (g.T.TreeHashe
     c.args.leaves.now) c.args.proof.now c.have_counts.ensures.form c.if-not-have_counts.true)
 
 pub returns-then-not-have_counts-clause-own : goal.returns-then-not-have_counts-clause-own
-returns-then-not-have_counts-clause-own g c own = answered-own _ (Ok false) (leaves-own (g.T.TreeHasher.hashes c.args.hasher.now)
+returns-then-not-have_counts-clause-own g c own = answered-own _ (Ok false) (leaves-own (g.T.TreeHasher.hashes
+    c.args.hasher.now)
     (g.D.Numbered.numbers c.args.root.now) c.args.size c.args.indexes.now c.args.leaves.now
     (map g.D.Numbered.numbers c.args.proof.now) own)
     (returns-then-not-have_counts-clause-answer g c)
@@ -25,7 +26,8 @@ returns-in_err-digests-clause-answer g c =
     c.args.leaves.now) c.args.proof.now c.have_counts.ensures.form c.if-not-have_counts.false) refused)
 
 pub returns-in_err-digests-clause-own : goal.returns-in_err-digests-clause-own
-returns-in_err-digests-clause-own g c own = answered-own _ c.from_residual.result (leaves-own (g.T.TreeHasher.hashes c.args.hasher.now)
+returns-in_err-digests-clause-own g c own = answered-own _ c.from_residual.result (leaves-own (g.T.TreeHasher.hashes
+    c.args.hasher.now)
     (g.D.Numbered.numbers c.args.root.now) c.args.size c.args.indexes.now c.args.leaves.now
     (map g.D.Numbered.numbers c.args.proof.now) own)
     (returns-in_err-digests-clause-answer g c)
@@ -39,13 +41,15 @@ returns-clause-answer g c =
     (rw (c.deref.ensures.value) at c.verify_multi_inclusion_digests.ensures.answer)
 
 pub returns-clause-bound : goal.returns-clause-bound
-returns-clause-bound g c = answered-bound _ c.verify_multi_inclusion_digests.result (leaves-bound (g.T.TreeHasher.hashes c.args.hasher.now)
+returns-clause-bound g c = answered-bound _ c.verify_multi_inclusion_digests.result (leaves-bound
+    (g.T.TreeHasher.hashes c.args.hasher.now)
     (g.D.Numbered.numbers c.args.root.now) c.args.size c.args.indexes.now c.args.leaves.now
     (map g.D.Numbered.numbers c.args.proof.now))
     (returns-clause-answer g c)
 
 pub returns-clause-own : goal.returns-clause-own
-returns-clause-own g c own = answered-own _ c.verify_multi_inclusion_digests.result (leaves-own (g.T.TreeHasher.hashes c.args.hasher.now)
+returns-clause-own g c own = answered-own _ c.verify_multi_inclusion_digests.result (leaves-own (g.T.TreeHasher.hashes
+    c.args.hasher.now)
     (g.D.Numbered.numbers c.args.root.now) c.args.size c.args.indexes.now c.args.leaves.now
     (map g.D.Numbered.numbers c.args.proof.now) own)
     (returns-clause-answer g c)

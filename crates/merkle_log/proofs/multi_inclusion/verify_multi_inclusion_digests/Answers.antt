@@ -9,7 +9,8 @@ use Rattle.merkle_log.proofs.multi_inclusion.verify_multi_inclusion_digests.Goal
 
 pub returns-in_err-shown-clause-own : goal.returns-in_err-shown-clause-own
 returns-in_err-shown-clause-own g c own =
-    passed_on _ _ c.from_residual.result c.in_err-shown.field-0.0 c.from_residual.ensures.1 c.in_err-shown.ensures.answer
+    passed_on _ _ c.from_residual.result c.in_err-shown.field-0.0 c.from_residual.ensures.1
+    c.in_err-shown.ensures.answer
     (λ refused. not-refused (multi-own (g.T.TreeHasher.hashes c.args.hasher.now).pair.upper
     (g.D.Numbered.numbers c.args.root.now) c.args.size (known_of g.D.Numbered.numbers c.args.indexes.now
     c.args.digests.now c.args.proof.now) own) refused)

@@ -86,7 +86,8 @@ returns-in_err-last-clause-digest g t c = λ stored empty.
     (c.is_complete.ensures.other c.if-is_complete.false) in
     given_on _ _ _ c.from_residual.result c.in_err-last.field-0.0 c.from_residual.ensures.1
     (c.in_err-last.ensures.digest stored empty) (λ refused. edge-refused stored empty c.args.size c.args.level
-    c.args.place c.middle_of-bound.result c.requires.within high c.middle_of-bound.ensures c.if-bound-size.false refused)
+    c.args.place c.middle_of-bound.result c.requires.within high c.middle_of-bound.ensures c.if-bound-size.false
+    refused)
 
 pub at-requires-2-clause-complete : goal.at-requires-2-clause-complete
 at-requires-2-clause-complete g t c =

@@ -12,7 +12,8 @@ returns-in_err-proof-clause-put g t c = λ stored empty.
     let none = emptied c.args.indexes.now c.is_empty.result c.is_empty.ensures c.if-is_empty.true in
     given_on _ _ _ c.from_residual.result c.in_err-proof.field-0.0 c.from_residual.ensures.1
     (c.in_err-proof.ensures.digest stored empty)
-    (λ refused. one-refused (g.H.NodeHasher.hash c.args.hasher.now) empty (row_at (g.R.Rows.stored c.args.rows.now) 0) c.args.size c.args.place c.requires.within _ c.args.level
+    (λ refused. one-refused (g.H.NodeHasher.hash c.args.hasher.now) empty (row_at (g.R.Rows.stored c.args.rows.now) 0)
+    c.args.size c.args.place c.requires.within _ c.args.level
     c.args.indexes.now _ none refused)
 
 pub bounds-proof-at : goal.bounds-proof-at
@@ -39,14 +40,16 @@ returns-then-is_empty-clause-next g t c =
 pub returns-then-is_empty-clause-put : goal.returns-then-is_empty-clause-put
 returns-then-is_empty-clause-put g t c = λ stored empty.
     let none = emptied c.args.indexes.now c.is_empty.result c.is_empty.ensures c.if-is_empty.true in
-    one-behind (g.H.NodeHasher.hash c.args.hasher.now) empty (row_at (g.R.Rows.stored c.args.rows.now) 0) c.args.size c.args.place c.requires.within g.D.Numbered.numbers c.args.proof.now
+    one-behind (g.H.NodeHasher.hash c.args.hasher.now) empty (row_at (g.R.Rows.stored c.args.rows.now) 0) c.args.size
+    c.args.place c.requires.within g.D.Numbered.numbers c.args.proof.now
     c.args.level c.args.at (c.args.at + 1) c.args.indexes.now _ none (c.in_ok-proof.ensures.digest stored empty)
     (omega (arith, c.requires.room, around-none c.args.size c.args.place c.args.level c.args.indexes.now none)) refl
 
 pub returns-then-level-eq0-clause-put : goal.returns-then-level-eq0-clause-put
 returns-then-level-eq0-clause-put g t c = λ stored empty.
     let some = filled c.args.indexes.now c.is_empty.result c.is_empty.ensures c.if-is_empty.false in
-    rw (hashes-leaf (g.H.NodeHasher.hash c.args.hasher.now) empty (row_at (g.R.Rows.stored c.args.rows.now) 0) c.args.size c.args.place
+    rw (hashes-leaf (g.H.NodeHasher.hash c.args.hasher.now) empty (row_at (g.R.Rows.stored c.args.rows.now) 0)
+    c.args.size c.args.place
     c.requires.within c.args.level c.args.indexes.now some c.if-level-eq0.true) (behind-nothing _)
 
 pub put_around-requires : goal.put_around-requires
@@ -74,7 +77,8 @@ put_around-requires g t c κs lives =
                         omega (
                           arith,
                           c.requires.room,
-                          around-alone c.args.size c.args.place c.args.level c.args.indexes.now (omega arith) some (omega arith),
+                          around-alone c.args.size c.args.place c.args.level c.args.indexes.now (omega arith) some
+                              (omega arith),
                         ),
                         c.requires.fits,
                       ),
@@ -91,7 +95,8 @@ put_around-requires g t c κs lives =
 pub returns-then-bound-size-clause-put : goal.returns-then-bound-size-clause-put
 returns-then-bound-size-clause-put g t c = λ stored empty.
     let some = filled c.args.indexes.now c.is_empty.result c.is_empty.ensures c.if-is_empty.false in
-    rw (hashes-alone (g.H.NodeHasher.hash c.args.hasher.now) empty (row_at (g.R.Rows.stored c.args.rows.now) 0) c.args.size c.args.place
+    rw (hashes-alone (g.H.NodeHasher.hash c.args.hasher.now) empty (row_at (g.R.Rows.stored c.args.rows.now) 0)
+    c.args.size c.args.place
     c.requires.within c.args.level c.middle_of-bound.result c.args.indexes.now (omega arith) some
     c.middle_of-bound.ensures c.if-bound-size.true) (c.put_around.ensures.put stored empty)
 
@@ -143,7 +148,8 @@ returns-in_err-next-clause-put g t c = λ stored empty.
     let some = filled c.args.indexes.now c.is_empty.result c.is_empty.ensures c.if-is_empty.false in
     given_on _ _ _ c.from_residual-in_err-next.result c.in_err-next.field-0.0 c.from_residual-in_err-next.ensures.1
     (c.in_err-next.ensures.put stored empty)
-    (λ refused. left-refused (g.H.NodeHasher.hash c.args.hasher.now) empty (row_at (g.R.Rows.stored c.args.rows.now) 0) c.args.size c.args.place
+    (λ refused. left-refused (g.H.NodeHasher.hash c.args.hasher.now) empty (row_at (g.R.Rows.stored c.args.rows.now)
+    0) c.args.size c.args.place
     c.requires.within c.args.level c.middle_of-bound.result c.args.indexes.now (omega arith) some
     c.middle_of-bound.ensures c.if-bound-size.false c.count_below-count.result c.count_below-count.ensures.count
     (map g.D.Numbered.numbers (take c.args.at c.args.proof.now)) _ refused)
@@ -198,7 +204,8 @@ put_around-requires-3 g t c κs lives =
 pub returns-clause-put : goal.returns-clause-put
 returns-clause-put g t c = λ stored empty.
     let some = filled c.args.indexes.now c.is_empty.result c.is_empty.ensures c.if-is_empty.false in
-    rw (left-behind (g.H.NodeHasher.hash c.args.hasher.now) empty (row_at (g.R.Rows.stored c.args.rows.now) 0) c.args.size c.args.place
+    rw (left-behind (g.H.NodeHasher.hash c.args.hasher.now) empty (row_at (g.R.Rows.stored c.args.rows.now) 0)
+    c.args.size c.args.place
     c.requires.within c.args.level c.middle_of-bound.result c.args.indexes.now (omega arith) some
     c.middle_of-bound.ensures c.if-bound-size.false c.count_below-count.result c.count_below-count.ensures.count
     (map g.D.Numbered.numbers (take c.args.at c.args.proof.now)) _
