@@ -16,29 +16,29 @@ use Rattle.baby_jubjub.specs.declared.point.PointFault.{PointFault}
 use Rattle.baby_jubjub.specs.declared.point.PointFault.TheVariants.{NotBelowModulus, NotOnCurve, SignOfZero}
 use Rattle.baby_jubjub.specs.declared.point.PointFault.TheVariants.{OutsideSubgroup}
 use Rattle.baby_jubjub.specs.BabyJubjub.{p, IsOnBabyJubjub}
-use Rattle.baby_jubjub.specs.Packed.{middle, sign, packed_bytes, second_in, sign_in, IsPointAt, IsPointFaultAt}
+use Rattle.baby_jubjub.specs.Packed.{half_p, sign, packed_bytes, second_in, sign_in, IsPointAt, IsPointFaultAt}
 use Rattle.baby_jubjub.specs.Points.{coordinates}
 use Rattle.baby_jubjub.specs.Laws.SamePoint.{same_point}
 use Rattle.baby_jubjub.proofs.Roots.{one_square, same_or_opposite}
 
 -- ---- the sign
 
-pub sign_of_test : (b : Bool) (x : ℕ) → IsTrue b ↔ (middle < x) → from_bool b ≡ sign x
+pub sign_of_test : (b : Bool) (x : ℕ) → IsTrue b ↔ (half_p < x) → from_bool b ≡ sign x
 unfolding sign
 sign_of_test b x t = ap from_bool (ltb_from_iff t)
 
-sign_is : (x : ℕ) → ((x ≤ middle) × (sign x ≡ 0)) ⊎ ((middle < x) × (sign x ≡ 1))
+sign_is : (x : ℕ) → ((x ≤ half_p) × (sign x ≡ 0)) ⊎ ((half_p < x) × (sign x ≡ 1))
 unfolding sign
-sign_is x = at (cases_lt middle x)
+sign_is x = at (cases_lt half_p x)
   where
-    at : (middle < x) ⊎ (x ≤ middle) → ((x ≤ middle) × (sign x ≡ 0)) ⊎ ((middle < x) × (sign x ≡ 1))
-    at (inl l) = inr (l, ap from_bool (lt-ltb middle x l))
-    at (inr l) = inl (l, ap from_bool (low (ltb middle x) (ltb-true middle x)))
+    at : (half_p < x) ⊎ (x ≤ half_p) → ((x ≤ half_p) × (sign x ≡ 0)) ⊎ ((half_p < x) × (sign x ≡ 1))
+    at (inl l) = inr (l, ap from_bool (lt-ltb half_p x l))
+    at (inr l) = inl (l, ap from_bool (low (ltb half_p x) (ltb-true half_p x)))
       where
-        low : (b : Bool) → (b ≡ true → middle < x) → b ≡ false
+        low : (b : Bool) → (b ≡ true → half_p < x) → b ≡ false
         low true h = absurd (clash x l (h refl))
           where
-            clash : (x : ℕ) → x ≤ middle → middle < x → ⊥
+            clash : (x : ℕ) → x ≤ half_p → half_p < x → ⊥
             clash x a b = omega (arith, a, b)
         low false h = refl
 
@@ -56,10 +56,10 @@ other_sign x below some = at (sign_is x) (sign_is ((p - x) % p))
     two : (x n : ℕ) → x < p → (x ≡ 0 → ⊥) → n ≡ (p - x) % p → n + x ≡ p
     two x n l s e = omega (arith, l, s, e)
 
-    make : (x n : ℕ) → n + x ≡ p → x ≤ middle → n ≤ middle → ⊥
+    make : (x n : ℕ) → n + x ≡ p → x ≤ half_p → n ≤ half_p → ⊥
     make x n e a b = omega (arith, e, a, b)
 
-    over : (x n : ℕ) → n + x ≡ p → middle < x → middle < n → ⊥
+    over : (x n : ℕ) → n + x ≡ p → half_p < x → half_p < n → ⊥
     over x n e a b = omega (arith, e, a, b)
 
     sum : ℕ
@@ -68,8 +68,8 @@ other_sign x below some = at (sign_is x) (sign_is ((p - x) % p))
     whole : sum + x ≡ p
     whole = two x sum below some refl
 
-    at : ((x ≤ middle) × (sign x ≡ 0)) ⊎ ((middle < x) × (sign x ≡ 1))
-        → ((sum ≤ middle) × (sign sum ≡ 0)) ⊎ ((middle < sum) × (sign sum ≡ 1)) → sign sum + sign x ≡ 1
+    at : ((x ≤ half_p) × (sign x ≡ 0)) ⊎ ((half_p < x) × (sign x ≡ 1))
+        → ((sum ≤ half_p) × (sign sum ≡ 0)) ⊎ ((half_p < sum) × (sign sum ≡ 1)) → sign sum + sign x ≡ 1
     at (inl a) (inl b) = absurd (make x sum whole a.0 b.0)
     at (inl a) (inr b) = omega (arith, a.1, b.1)
     at (inr a) (inl b) = omega (arith, a.1, b.1)

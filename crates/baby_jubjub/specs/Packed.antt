@@ -9,12 +9,12 @@ use Rattle.baby_jubjub.specs.declared.point.PointFault.TheVariants.{OutsideSubgr
 use Rattle.baby_jubjub.specs.BabyJubjub.{p, IsOnBabyJubjub}
 
 -- (p - 1) / 2
-abbrev pub middle : ℕ
-middle = 10944121435919637611123202872628637544274182200208017171849102093287904247808
+abbrev pub half_p : ℕ
+half_p = 10944121435919637611123202872628637544274182200208017171849102093287904247808
 
 -- the sign of a first coordinate: 1 where it is above (p - 1) / 2, else 0
 unfoldable pub sign : ℕ → ℕ
-sign x = from_bool (nat_lt middle x)
+sign x = from_bool (nat_lt half_p x)
 
 -- the bytes of y, the least first, with the sign of x as the highest bit
 unfoldable pub packed_bytes : Coordinates → List ℕ
