@@ -19,6 +19,7 @@ void secret_signature(uint8_t signature[64], const uint8_t seed[32]);
 int32_t secret_same_digest(const uint8_t a[32], const uint8_t b[32]);
 void secret_key_word(uint8_t word[44], const uint8_t bytes[33]);
 int32_t secret_key_bytes(uint8_t bytes[33], const uint8_t word[44]);
+int32_t secret_eddsa(uint8_t signature[64], const uint8_t private_key[32]);
 int32_t secret_commitment(uint8_t commitment[64], const uint8_t randomness[32]);
 int32_t planted_commitment(uint8_t commitment[64], const uint8_t randomness[32]);
 void planted_multiple(uint8_t key[64], const uint8_t secret[32]);
@@ -100,6 +101,13 @@ static int key_text(void) {
     return answers[0] == 0 && bytes[0] == 0 && bytes[1] == 16 && bytes[2] == 131;
 }
 
+static void eddsa_signature(uint8_t signature[64], const uint8_t private_key[32]) {
+    if (secret_eddsa(signature, private_key) != 0)
+        memset(signature, 0, 64);
+}
+
+static int eddsa(void) { return same(eddsa_signature, 7, 0) && same(eddsa_signature, 255, 255); }
+
 static void commitment_by_table(uint8_t commitment[64], const uint8_t randomness[32]) {
     if (secret_commitment(commitment, randomness) != 0)
         memset(commitment, 0, 64);
@@ -162,6 +170,7 @@ static const struct {
     {"signature", signature},
     {"same_digest", same_digest},
     {"key_text", key_text},
+    {"eddsa", eddsa},
     {"commitment", commitment},
     {"planted_branch", planted_branch},
     {"planted_in_commitment", planted_in_commitment},

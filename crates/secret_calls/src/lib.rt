@@ -1,4 +1,4 @@
-//! Calls over Jubjub, by a key of Ed25519, on digests and on the text of a key, exported to C so that `bindings/secrets-test` runs their machine code with the secrets marked as
+//! Calls over Jubjub and Baby Jubjub, by a key of Ed25519, on digests and on the text of a key, exported to C so that `bindings/secrets-test` runs their machine code with the secrets marked as
 //! undefined. They stand in no library that is handed out, and promise nothing beyond what they call.
 #![tactic(auto)]
 
@@ -9,6 +9,8 @@ use ark_schemes::commitment::CommitmentScheme;
 use ark_schemes::commitment::pedersen::{Commitment, PreparedParameters, Randomness, Window};
 use ark_schemes::from_label::pedersen_commitment_from_label;
 use ark_schemes::prf::is_same_digest;
+use ark_wide_fields::Bn254Fr;
+use baby_jubjub::{EddsaPoseidon, PrivateKey};
 use ed25519::SigningKey;
 use jubjub::{Jubjub, JubjubFr};
 use signed_notes::symbols::{bytes_of, word_of};
@@ -91,6 +93,19 @@ pub extern "C" fn secret_key_bytes(bytes: &mut [u8; 33], word: &[u8; 44]) -> i32
     let (own, is_whole) = bytes_of(word);
     *bytes = own;
     is_whole as i32
+}
+
+/// Writes the signature of 1 that circomlib makes by a private key. Returns 0, or 1 where memory is refused.
+#[unsafe(no_mangle)]
+pub extern "C" fn secret_eddsa(alloc: Global, signature: &mut [u8; 64], private: &[u8; 32]) -> i32 {
+    match EddsaPoseidon::new(alloc) {
+        Ok(eddsa) => {
+            let key = PrivateKey::of(*private);
+            *signature = eddsa.sign_private(&key, Bn254Fr::one()).to_bytes();
+            0
+        }
+        Err(_) => 1,
+    }
 }
 
 // A window of four bits.
