@@ -17,6 +17,7 @@ use Rattle.merkle_log.specs.Edge.{all_of, path_behind}
 abbrev pub middle : ℕ → ℕ → ℕ
 middle level place = (place + place + 1) * 2 ^ level
 
+-- whether there is no index
 abbrev pub is_none : List ℕ → Bool
 is_none [] = true
 is_none (index ∷ rest) = false
@@ -149,6 +150,7 @@ abbrev pub have_counts : ℕ → List ℕ → ℕ → ℕ → Bool
 have_counts size indexes leaves proof =
     are_multi_indexes size indexes && (leaves == length indexes) && (proof == multi_length size indexes)
 
+-- the same of what is known below the root
 abbrev pub has_form : ℕ → Known → Bool
 has_form size known = have_counts size known.indexes (length known.leaves) (length known.proof)
 
