@@ -110,6 +110,9 @@ pub use Rattle.merkle_log.specs.Edge.{all_of, root_pairs}
 pub use Rattle.merkle_log.specs.Frontier.{CanJoin, FrontierValue, IsFrontier, RefusesPeak, RefusesTree, frontier_in}
 pub use Rattle.merkle_log.specs.Log.{LogValue, both_levels, consistency_path, inclusion_path, merkle_tree_hash, root_at}
 pub use Rattle.merkle_log.specs.Log.{with_more}
+pub use Rattle.merkle_log.specs.Multi.{Known, are_multi_indexes, digests_at, known_of, known_verdict, leaves_verdict}
+pub use Rattle.merkle_log.specs.Multi.{multi_length, multi_pairs, multi_proof, received_leaves}
+pub use Rattle.merkle_log.specs.MultiBind.{BindsDigests, BindsLogLeaves, IsLeavesProof, IsMultiProof, ShowsLogLeaves}
 pub use Rattle.merkle_log.specs.Received.{ShowsFront, ShowsLogLeaf, consistency_length, digests_in, inclusion_length}
 pub use Rattle.merkle_log.specs.Received.{received_consistency, received_inclusion}
 pub use Rattle.merkle_log.specs.Stored.{IsStored, row_at}
