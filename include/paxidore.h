@@ -57,7 +57,7 @@ enum paxidore_answer {
                                 * one of the sizes, or the old one is above the new one; or too few are kept */
     PAXIDORE_E_LENGTHS = -6,   /* the lengths of the leaves do not sum to that of their bytes */
     PAXIDORE_E_COUNT = -7,     /* not as many leaves as indexes; or more values than keys; or no hash takes so many */
-    PAXIDORE_E_INDEX = -8,     /* an index is not below the count of leaves, or there is none */
+    PAXIDORE_E_INDEX = -8,     /* an index is not below the count of leaves, or there is none; or keys do not rise */
     PAXIDORE_E_ROOM = -9,      /* a buffer is too short, and what is needed was written */
     PAXIDORE_E_MORE = -10,     /* pieces of the file of a log are to be read first, and their places were written */
     PAXIDORE_E_NO_LOG = -11,   /* the file is no log's */

@@ -69,6 +69,8 @@ static size_t place_of(const uint8_t key[32]) {
     return at;
 }
 
+static int by_bytes(const void *a, const void *b) { return memcmp(a, b, 32); }
+
 static int is_there(const uint8_t key[32]) {
     size_t at = place_of(key);
     return at < count && memcmp(model[at].key, key, 32) == 0;
@@ -108,6 +110,90 @@ static void has(const paxidore_kept_map *own, const uint8_t root[32], const uint
     }
 }
 
+/* What a map has at a key where 1 says so, or nothing. */
+static int has_value(const paxidore_kept_map *own, const uint8_t key[32], uint8_t is_there, const uint8_t value[32]) {
+    uint8_t there[32];
+    int32_t answer = paxidore_kept_map_get(there, own, MEMORY, key);
+    return is_there ? answer == PAXIDORE_OK && memcmp(there, value, 32) == 0 : answer == PAXIDORE_NOT_SHOWN;
+}
+
+/* The difference of two versions: each key of it is told, and no other. */
+static void differences(const paxidore_kept_map *old, const paxidore_kept_map *own) {
+    uint8_t from[32] = {0}, key[32], old_value[32], new_value[32], has_old, has_new, near_key[32];
+    size_t told = 0, wanted = 0;
+    for (; paxidore_kept_map_differ(key, old_value, &has_old, new_value, &has_new, old, own, MEMORY, from) == PAXIDORE_OK; told++) {
+        CHECK(has_value(old, key, has_old, old_value) && has_value(own, key, has_new, new_value));
+        CHECK(memcmp(key, from, 32) >= 0);
+        CHECK(has_old != has_new || (has_old && memcmp(old_value, new_value, 32) != 0));
+        memcpy(from, key, 32);
+        for (size_t i = 32; i-- > 0 && ++from[i] == 0;)
+            continue;
+    }
+    for (size_t i = 0; i < KEYS; i++) {
+        near(near_key, i);
+        int32_t in_old = paxidore_kept_map_get(old_value, old, MEMORY, near_key), in_new = paxidore_kept_map_get(new_value, own, MEMORY, near_key);
+        wanted += in_old != in_new || (in_old == PAXIDORE_OK && memcmp(old_value, new_value, 32) != 0);
+    }
+    CHECK(told == wanted);
+    CHECK(paxidore_kept_map_differ(key, old_value, &has_old, new_value, &has_new, own, own, MEMORY, near_key) == PAXIDORE_NOT_SHOWN);
+}
+
+/* The bytes of a tree for keys, and for all keys from one to another, as whoever knows the root reads them. */
+static void trees(const paxidore_kept_map *own, const uint8_t root[32]) {
+    static uint8_t tree[1 << 16];
+    uint8_t keys[4][32], again[32], from[32], next_key[32], next_value[32];
+    size_t tree_len = 0, needed = 0, keys_count = below(5);
+    for (size_t i = 0; i < keys_count; i++)
+        near(keys[i], below(KEYS + 12));
+    qsort(keys, keys_count, 32, by_bytes);
+    CHECK(paxidore_kept_map_prove_many(tree, sizeof tree, &tree_len, own, MEMORY, *keys, keys_count) == PAXIDORE_OK);
+    CHECK(paxidore_kept_map_prove_many(tree, tree_len - 1, &needed, own, MEMORY, *keys, keys_count) == PAXIDORE_E_ROOM);
+    CHECK(needed == tree_len);
+    CHECK(paxidore_map_root(again, tree, tree_len) == PAXIDORE_OK && memcmp(again, root, 32) == 0);
+    for (size_t i = 0; i < keys_count; i++) {
+        size_t at = place_of(keys[i]);
+        CHECK(paxidore_map_prove(proof, sizeof proof, &proof_len, tree, tree_len, keys[i]) == PAXIDORE_OK);
+        CHECK((is_there(keys[i]) ? paxidore_map_verify(root, keys[i], model[at].value, proof, proof_len)
+                                 : paxidore_map_verify_absent(root, keys[i], proof, proof_len)) == PAXIDORE_OK);
+    }
+    if (keys_count > 1 && memcmp(keys[0], keys[1], 32) != 0) {
+        memcpy(from, keys[0], 32);
+        memcpy(keys[0], keys[1], 32);
+        memcpy(keys[1], from, 32);
+        CHECK(paxidore_kept_map_prove_many(tree, sizeof tree, &needed, own, MEMORY, *keys, 2) == PAXIDORE_E_INDEX);
+        CHECK(needed == tree_len);
+    }
+    near(keys[0], below(KEYS));
+    near(keys[1], below(KEYS));
+    CHECK(paxidore_kept_map_prove_range(tree, sizeof tree, &tree_len, own, MEMORY, keys[0], keys[1]) == PAXIDORE_OK);
+    CHECK(paxidore_kept_map_prove_range(tree, 0, &needed, own, MEMORY, keys[0], keys[1]) == PAXIDORE_E_ROOM);
+    CHECK(needed == tree_len);
+    CHECK(paxidore_map_root(again, tree, tree_len) == PAXIDORE_OK && memcmp(again, root, 32) == 0);
+    memcpy(from, keys[0], 32);
+    for (size_t at = place_of(keys[0]); at < count && memcmp(model[at].key, keys[1], 32) <= 0; at++) {
+        CHECK(paxidore_map_next(next_key, next_value, tree, tree_len, from, keys[1]) == PAXIDORE_OK);
+        CHECK(memcmp(next_key, model[at].key, 32) == 0 && memcmp(next_value, model[at].value, 32) == 0);
+        memcpy(from, next_key, 32);
+        for (size_t i = 32; i-- > 0 && ++from[i] == 0;)
+            continue;
+    }
+    CHECK(paxidore_map_next(next_key, next_value, tree, tree_len, from, keys[1]) == PAXIDORE_NOT_SHOWN);
+    /* from the least key to the last one the tree answers as the map does, or hides what may come first */
+    memset(keys[0], 0, 32);
+    memset(keys[1], 255, 32);
+    switch (paxidore_map_next(next_key, next_value, tree, tree_len, keys[0], keys[1])) {
+    case PAXIDORE_OK:
+        CHECK(memcmp(next_key, model[0].key, 32) == 0);
+        break;
+    case PAXIDORE_NOT_SHOWN:
+        CHECK(count == 0);
+        break;
+    default:
+        CHECK(paxidore_map_next(next_key, next_value, tree, tree_len, keys[0], keys[1]) == PAXIDORE_E_HIDDEN && count > 1);
+    }
+    CHECK(paxidore_map_next(next_key, next_value, tree, tree_len - 1, keys[0], keys[1]) == PAXIDORE_E_TRUNCATED);
+}
+
 static void changes(size_t turns) {
     static paxidore_kept_map older[HEADS];
     static uint8_t older_roots[HEADS][32];
@@ -139,6 +225,7 @@ static void changes(size_t turns) {
         CHECK(memcmp(root, wanted, 32) == 0);
         near(key, below(KEYS + 12));
         has(&map, root, key);
+        trees(&map, root);
         CHECK((paxidore_kept_map_get(value, &map, MEMORY, key) == PAXIDORE_OK) == is_there(key));
         size_t at = place_of(key);
         if (paxidore_kept_map_next(next_key, next_value, &map, MEMORY, key) == PAXIDORE_OK)
@@ -151,6 +238,8 @@ static void changes(size_t turns) {
         CHECK(paxidore_kept_map_root(again, &older[some], MEMORY) == PAXIDORE_OK);
         CHECK(memcmp(again, older_roots[some], 32) == 0);
         has(&older[some], again, key);
+        differences(&older[some], &map);
+        differences(&map, &older[some]);
     }
 }
 
@@ -214,6 +303,11 @@ static void hostile(size_t turns) {
         shown += paxidore_kept_map_get(root, &own, *some_entries, 8, *some_forks, FEW, key) == PAXIDORE_OK;
         shown += paxidore_kept_map_next(root, value, &own, *some_entries, 8, *some_forks, FEW, key) == PAXIDORE_OK;
         shown += paxidore_kept_map_prove(proof, sizeof proof, &proof_len, &own, *some_entries, 8, *some_forks, FEW, key) == PAXIDORE_OK;
+        shown += paxidore_kept_map_prove_many(proof, sizeof proof, &proof_len, &own, *some_entries, 8, *some_forks, FEW, key, 1) == PAXIDORE_OK;
+        shown += paxidore_kept_map_prove_range(proof, sizeof proof, &proof_len, &own, *some_entries, 8, *some_forks, FEW, key, value) == PAXIDORE_OK;
+        paxidore_kept_map other = {below(40), below(9), below(41)};
+        uint8_t has_old, has_new;
+        shown += paxidore_kept_map_differ(root, value, &has_old, value, &has_new, &own, &other, *some_entries, 8, *some_forks, FEW, key) == PAXIDORE_OK;
         shown += paxidore_kept_map_copy(&to_map, *to_entries, KEYS, *to_forks, 64, &own, *some_entries, 8, *some_forks, FEW) == PAXIDORE_OK;
         told += paxidore_kept_map_check(root, &own, *some_entries, 8, *some_forks, FEW) == PAXIDORE_OK;
         CHECK(memcmp(&own, &same, sizeof own) == 0);

@@ -52,7 +52,7 @@ from ._library import (
 )
 from ._nodes import DamagedMap
 from .hashes import Blake2s, blake2s, blake2s_commit, blake2s_opens, cpu, sha256_digest, version
-from .kept_map import KeptMap
+from .kept_map import KeptMap, KeptVersion
 from .log import Log
 from .map import Map, MapVersion
 from .transcript import Field, Transcript, TranscriptError, parameters_bytes, ready_parameters
@@ -75,6 +75,7 @@ __all__ = [
     "IndexBeyondSize",
     "InvalidProof",
     "KeptMap",
+    "KeptVersion",
     "LengthsError",
     "Log",
     "Map",

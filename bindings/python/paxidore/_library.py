@@ -202,6 +202,12 @@ def _digest(root: bytes, name: str = "root") -> bytes:
     return root
 
 
+def _above(key: bytes) -> Optional[bytes]:
+    """The key that follows, or None behind the last one."""
+    number = int.from_bytes(key, "big") + 1
+    return None if number >> 8 * DIGEST_BYTES else number.to_bytes(DIGEST_BYTES, "big")
+
+
 def _int(name: str, number: int) -> int:
     # as int itself, since a subclass may compare in another way than its number does
     if not isinstance(number, int):

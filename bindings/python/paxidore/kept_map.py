@@ -1,8 +1,8 @@
 """Maps whose entries and forks are kept in memory. ``paxidore.KeptMap`` is the class of this module."""
 import ctypes
-from typing import Any, Iterator, Mapping, MutableMapping, Optional, Tuple
+from typing import Any, Callable, Iterable, Iterator, Mapping, MutableMapping, Optional, Tuple
 
-from ._library import DIGEST_BYTES, _bytes, _call, _digest, _refusal, _size, _sizes
+from ._library import DIGEST_BYTES, _above, _bytes, _call, _digest, _refusal, _size, _sizes
 from ._turn import Turn
 
 _memory = ctypes.c_void_p
@@ -24,13 +24,17 @@ _root = _call("kept_map_root", ctypes.c_int32, _memory, *_kept)
 _get = _call("kept_map_get", ctypes.c_int32, _memory, *_kept, _bytes)
 _next = _call("kept_map_next", ctypes.c_int32, _memory, _memory, *_kept, _bytes)
 _prove = _call("kept_map_prove", ctypes.c_int32, _memory, _size, _sizes, *_kept, _bytes)
+_prove_many = _call("kept_map_prove_many", ctypes.c_int32, _memory, _size, _sizes, *_kept, _bytes, _size)
+_prove_range = _call("kept_map_prove_range", ctypes.c_int32, _memory, _size, _sizes, *_kept, _bytes, _bytes)
+_bit = ctypes.POINTER(ctypes.c_uint8)
+_differ = _call("kept_map_differ", ctypes.c_int32, _memory, _memory, _bit, _memory, _bit, _head, *_kept, _bytes)
 _copy = _call("kept_map_copy", ctypes.c_int32, *_kept, *_kept)
 _check = _call("kept_map_check", ctypes.c_int32, _memory, *_kept)
 
 # as the header has them
 _ENTRY_BYTES, _FORK_BYTES, _CHANGE_FORKS = 64, 48, 256
 _PROOF_BYTES = 3 + 64 + 32 + 256 * 32
-_NOT_SHOWN = 1
+_ROOM = -9
 # a copy is made where a third of so many forks, or more, no longer belongs to the map
 _FEW = 1024
 
@@ -38,7 +42,7 @@ _FEW = 1024
 class _State:
     """A head with its memory: one object, so that a call that is interrupted leaves the one before it or the one behind it."""
 
-    __slots__ = ("head", "entries", "forks", "own_forks", "root")
+    __slots__ = ("head", "entries", "forks", "own_forks", "root", "lineage")
 
     def __init__(self, entries: int, forks: int) -> None:
         self.head = _Head()
@@ -47,6 +51,8 @@ class _State:
         # how many forks the map had when no other ones were there
         self.own_forks = 0
         self.root: Optional[bytes] = None
+        # the same in copies that leave nothing out: there older heads still have their maps
+        self.lineage = object()
 
     def all(self) -> Tuple[Any, ...]:
         entries, forks = len(self.entries) // _ENTRY_BYTES, len(self.forks) // _FORK_BYTES
@@ -63,7 +69,7 @@ class _State:
             ctypes.memmove(more.entries, self.entries, _ENTRY_BYTES * head.entries)
             ctypes.memmove(more.forks, self.forks, _FORK_BYTES * head.forks)
             ctypes.pointer(more.head)[0] = head
-            more.own_forks = self.own_forks
+            more.own_forks, more.lineage = self.own_forks, self.lineage
         more.root = self.root
         return more
 
@@ -81,6 +87,14 @@ class _State:
         ctypes.pointer(more.head)[0] = made
         more.own_forks = made.forks
         return more
+
+
+class KeptVersion:
+    """A version of a ``KeptMap``, for ``differences``. It takes no memory of its own."""
+
+    def __init__(self, state: _State) -> None:
+        self._lineage = state.lineage
+        self._head = _Head(state.head.top, state.head.entries, state.head.forks)
 
 
 class KeptMap(MutableMapping[bytes, bytes]):
@@ -145,6 +159,28 @@ class KeptMap(MutableMapping[bytes, bytes]):
         """The bytes of the proof of what the map has at the key, a value or nothing, for ``Map.verify``."""
         return self._turn.run(self._proved, _digest(key, "key"))
 
+    def _tree(self, call: "Callable[..., int]", words: Tuple[Any, ...], room: int) -> bytes:
+        """The bytes of a tree of the map, which may want more room."""
+        self._hashed()
+        while True:
+            tree, count = ctypes.create_string_buffer(room), _size()
+            answer = call(tree, room, ctypes.byref(count), *self._state.all(), *words)
+            if answer != _ROOM:
+                break
+            room = count.value
+        if answer != 0:
+            raise _refusal(answer)
+        return ctypes.string_at(tree, count.value)
+
+    def prove_many(self, keys: Iterable[bytes]) -> bytes:
+        """The bytes of a tree that shows what the map has at these keys and hides the rest."""
+        rising = sorted({_digest(key, "key") for key in keys})
+        return self._turn.run(self._tree, _prove_many, (b"".join(rising), len(rising)), 512 * len(rising) + 64)
+
+    def prove_range(self, first: bytes, last: bytes) -> bytes:
+        """The bytes of a tree that shows all that the map has from ``first`` to ``last``, both with them, for ``Map.verify_range``."""
+        return self._turn.run(self._tree, _prove_range, (_digest(first, "first"), _digest(last, "last")), 4096)
+
     def _found_from(self, key: bytes) -> Optional[Tuple[bytes, bytes]]:
         own, value = ctypes.create_string_buffer(DIGEST_BYTES), ctypes.create_string_buffer(DIGEST_BYTES)
         answer = _next(own, value, *self._state.all(), key)
@@ -155,6 +191,35 @@ class KeptMap(MutableMapping[bytes, bytes]):
     def first_from(self, key: bytes) -> Optional[Tuple[bytes, bytes]]:
         """The entry with the least key that is not below this one; None where there is none."""
         return self._turn.run(self._found_from, _digest(key, "key"))
+
+    def version(self) -> KeptVersion:
+        """The map as it is now, for ``differences``. It is lost where a change copies the map without what no longer belongs to it."""
+        return self._turn.run(lambda: KeptVersion(self._state))
+
+    def _differs(self, version: KeptVersion, key: bytes) -> Optional[Tuple[bytes, Optional[bytes], Optional[bytes]]]:
+        state = self._state
+        if version._lineage is not state.lineage:
+            raise KeyError("the version is no longer kept")
+        own, old, new = (ctypes.create_string_buffer(DIGEST_BYTES) for _ in range(3))
+        has_old, has_new = ctypes.c_uint8(), ctypes.c_uint8()
+        answer = _differ(
+            own, old, ctypes.byref(has_old), new, ctypes.byref(has_new), ctypes.byref(version._head), *state.all(), key
+        )
+        if answer < 0:
+            raise _refusal(answer)
+        return (own.raw, old.raw if has_old.value else None, new.raw if has_new.value else None) if answer == 0 else None
+
+    def differences(self, version: KeptVersion) -> Iterator[Tuple[bytes, Optional[bytes], Optional[bytes]]]:
+        """The keys at which the map differs from an older version of it, rising, each with what that has there and what the map has: a value
+        or None. It costs what the difference asks for. Raises ``KeyError`` where the version is no longer kept.
+        """
+        from_key: Optional[bytes] = bytes(DIGEST_BYTES)
+        while from_key is not None:
+            found = self._turn.run(self._differs, version, from_key)
+            if found is None:
+                return
+            yield found
+            from_key = _above(found[0])
 
     def _checked(self) -> bool:
         root = ctypes.create_string_buffer(DIGEST_BYTES)
@@ -185,10 +250,8 @@ class KeptMap(MutableMapping[bytes, bytes]):
         found = self.first_from(bytes(DIGEST_BYTES))
         while found is not None:
             yield found[0]
-            above = int.from_bytes(found[0], "big") + 1
-            if above >> 256:
-                return
-            found = self.first_from(above.to_bytes(DIGEST_BYTES, "big"))
+            above = _above(found[0])
+            found = None if above is None else self.first_from(above)
 
     def __len__(self) -> int:
         count = self._count

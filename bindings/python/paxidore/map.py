@@ -4,10 +4,10 @@ import heapq
 import os
 import sqlite3
 import threading
-from typing import Any, Callable, ContextManager, Dict, Iterable, Iterator, Mapping, MutableMapping, Optional, Sequence, Tuple, TypeVar
+from typing import Any, Callable, ContextManager, Dict, Iterable, Iterator, List, Mapping, MutableMapping, Optional, Sequence, Tuple, TypeVar
 
 from ._batch import Batch, Changed, Entered
-from ._library import DIGEST_BYTES, _bytes, _call, _digest, _int, _refusal, _size, _sizes
+from ._library import DIGEST_BYTES, _above, _bytes, _call, _digest, _exact, _int, _refusal, _size, _sizes
 from ._nodes import _MOST, _NOTHING, AsKept, DamagedMap, Versions, _alone, _root_of, _Store
 from ._turn import Turn
 
@@ -16,6 +16,7 @@ _Result = TypeVar("_Result")
 _map_verify = _call("map_verify", ctypes.c_int32, _bytes, _bytes, _bytes, _bytes, _size)
 _map_verify_absent = _call("map_verify_absent", ctypes.c_int32, _bytes, _bytes, _bytes, _size)
 _map_prove = _call("map_prove", ctypes.c_int32, ctypes.c_void_p, _size, _sizes, _bytes, _size, _bytes)
+_map_next = _call("map_next", ctypes.c_int32, ctypes.c_void_p, ctypes.c_void_p, _bytes, _size, _bytes, _bytes)
 # bytes, keys or values with their count
 _run = (_bytes, _size)
 _map_change = _call("map_change", ctypes.c_int32, ctypes.c_void_p, ctypes.c_void_p, _size, _sizes, _bytes, *_run, *_run, *_run)
@@ -318,6 +319,30 @@ class Map(MapVersion, MutableMapping[bytes, bytes]):
         if answer < 0:
             raise _refusal(answer)
         return bool(answer == 0)
+
+    @staticmethod
+    def verify_range(root: bytes, first: bytes, last: bytes, tree: bytes) -> Optional[List[Tuple[bytes, bytes]]]:
+        """All entries from ``first`` to ``last``, both with them, of the map with this root, by the bytes of ``prove_range``.
+
+        None where the tree has another root. Else every map with this root has these there and no others, or two different nodes with one
+        SHA-256 are at hand. Raises ``TruncatedProof`` and ``InvalidProof`` for bytes that are no tree, ``HiddenTree`` where the tree hides a
+        part that may have an entry there; ``OutOfMemory``.
+        """
+        _digest(root), _digest(first, "first"), _digest(last, "last")
+        if _root_of(_exact("tree", tree)) != root:
+            return None
+        entries: List[Tuple[bytes, bytes]] = []
+        key, value = ctypes.create_string_buffer(DIGEST_BYTES), ctypes.create_string_buffer(DIGEST_BYTES)
+        above: Optional[bytes] = first
+        while above is not None:
+            answer = _map_next(key, value, tree, len(tree), above, last)
+            if answer < 0:
+                raise _refusal(answer)
+            if answer != 0:
+                break
+            entries.append((key.raw, value.raw))
+            above = _above(key.raw)
+        return entries
 
     def at(self, version: int) -> MapVersion:
         """A version that is kept. Raises ``KeyError`` where it is not."""

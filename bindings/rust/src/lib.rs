@@ -50,6 +50,8 @@ pub use follow::{follow, FollowError};
 pub use log::{Log, LogError};
 pub use map::Map;
 #[cfg(feature = "std")]
+pub use map_memory::{Difference as MapDifference, MapVersion};
+#[cfg(feature = "std")]
 pub use transcript::{ready_parameters, Field, Transcript};
 #[cfg(feature = "std")]
 pub use tree::Tree;
@@ -151,7 +153,9 @@ impl fmt::Display for Refused {
             Refused::NoLog => f.write_str("the file is no log"),
             Refused::Short => f.write_str("the file of the log ends early"),
             Refused::DamagedHead => f.write_str("the head of the log's file is damaged"),
-            Refused::Damaged => f.write_str("the file of the log, or the memory of the map, is damaged"),
+            Refused::Damaged => {
+                f.write_str("the file of the log, or the memory of the map, is damaged")
+            }
             Refused::Hidden => f.write_str("the tree of the map hides what is needed"),
             Refused::NoPolicy => f.write_str("the text is no policy"),
             Refused::BadSignature => f.write_str("a signature by a key does not hold"),

@@ -1,7 +1,7 @@
 //! Maps with one root, for whoever keeps one in memory and for clients.
 
 #[cfg(feature = "std")]
-use crate::map_memory::{has_bit, sides_of, Memory, Part, NOTHING, PROOF};
+use crate::map_memory::{has_bit, sides_of, Difference, MapVersion, Memory, Part, NOTHING, PROOF};
 use crate::{sys, verdict, Digest, Refused};
 #[cfg(feature = "std")]
 use std::collections::{HashMap, HashSet};
@@ -35,6 +35,20 @@ impl Map {
             }
         })
     }
+}
+
+// The key that follows, where there is one.
+#[cfg(feature = "std")]
+fn above_of(key: &Digest) -> Option<Digest> {
+    let mut above = *key;
+    for byte in above.iter_mut().rev() {
+        let (next, is_over) = byte.overflowing_add(1);
+        *byte = next;
+        if !is_over {
+            return Some(above);
+        }
+    }
+    None
 }
 
 #[cfg(feature = "std")]
@@ -324,6 +338,81 @@ impl Map {
                 sys::paxidore_map_prove(bytes, room, count, tree.as_ptr(), tree.len(), key.as_ptr())
             }
         })
+    }
+
+    /// The map as it is now, for [`differences`](Map::differences). A change that copies the map without what no longer belongs to it
+    /// loses the version.
+    pub fn version(&self) -> MapVersion {
+        self.memory.version()
+    }
+
+    /// The keys at which the map differs from an older version of it, rising, each with what that has there and what the map has. It
+    /// costs what the difference asks for. `None` where the version is no longer kept, or is another map's.
+    pub fn differences(
+        &self,
+        version: &MapVersion,
+    ) -> Option<impl Iterator<Item = Difference> + '_> {
+        let version = *version;
+        let mut from = Some([0; 32]);
+        self.memory.keeps(&version).then(|| {
+            std::iter::from_fn(move || {
+                let found = self.memory.differs(&version, &from?);
+                from = found.as_ref().and_then(|(key, _, _)| above_of(key));
+                found
+            })
+        })
+    }
+
+    /// The bytes of a tree that shows what the map has at these keys, in any order, and hides the rest. The refusal is `Memory`.
+    pub fn prove_many(&self, keys: &[Digest]) -> Result<Vec<u8>, Refused> {
+        let mut rising = keys.to_vec();
+        rising.sort_unstable();
+        self.memory.prove_many(&rising)
+    }
+
+    /// The bytes of a tree that shows all that the map has from one key to another, both with them, for
+    /// [`verify_range`](Map::verify_range). The refusal is `Memory`.
+    pub fn prove_range(&self, first: &Digest, last: &Digest) -> Result<Vec<u8>, Refused> {
+        self.memory.prove_range(first, last)
+    }
+
+    /// All entries from one key to another, both with them, of the map with this root, by the bytes of a tree
+    /// ([`prove_range`](Map::prove_range)); `None` where the tree has another root.
+    ///
+    /// Every map with this root has these there and no others, or two different nodes with one SHA-256 are at hand. Refusals:
+    /// `Truncated` and `Invalid` for bytes that are no tree, `Hidden` where the tree hides a part that may have an entry there,
+    /// `Memory`.
+    pub fn verify_range(
+        root: &Digest,
+        first: &Digest,
+        last: &Digest,
+        tree: &[u8],
+    ) -> Result<Option<Vec<(Digest, Digest)>>, Refused> {
+        if Map::root_of_tree(tree)? != *root {
+            return Ok(None);
+        }
+        let (mut entries, mut from) = (Vec::new(), Some(*first));
+        while let Some(above) = from {
+            let (mut key, mut value) = ([0; 32], [0; 32]);
+            // SAFETY: the key and the value are of this function, and the tree is a borrowed slice, as are both bounds.
+            let answer = unsafe {
+                sys::paxidore_map_next(
+                    key.as_mut_ptr(),
+                    value.as_mut_ptr(),
+                    tree.as_ptr(),
+                    tree.len(),
+                    above.as_ptr(),
+                    last.as_ptr(),
+                )
+            };
+            match answer {
+                0 => entries.push((key, value)),
+                1 => break,
+                refused => return Err(Refused::of(refused)),
+            }
+            from = above_of(&key);
+        }
+        Ok(Some(entries))
     }
 
     /// The root of the maps that a tree's bytes show. Refusals: `Truncated` and `Invalid` for bytes that are no tree, `Memory`.

@@ -1,6 +1,8 @@
 //! The memory of a map: its entries and forks, as the library keeps them.
 
 use crate::{sys, Digest, Refused};
+use std::fmt;
+use std::sync::atomic::{AtomicU64, Ordering};
 
 // The most bytes of a proof, as the header has them.
 pub const PROOF: usize = 3 + 64 + 32 + 256 * 32;
@@ -73,14 +75,49 @@ fn make_room<T: Copy>(memory: &mut Vec<T>, room: usize, empty: T) -> Result<(), 
     Ok(())
 }
 
+// A number that no other memory has.
+fn lineage() -> u64 {
+    static NEXT: AtomicU64 = AtomicU64::new(0);
+    NEXT.fetch_add(1, Ordering::Relaxed)
+}
+
+/// A version of a [`Map`](crate::Map), for [`differences`](crate::Map::differences). It takes no memory of its own.
+#[derive(Clone, Copy)]
+pub struct MapVersion {
+    head: sys::KeptMap,
+    lineage: u64,
+}
+
+impl fmt::Debug for MapVersion {
+    fn fmt(&self, f: &mut fmt::Formatter<'_>) -> fmt::Result {
+        f.debug_struct("MapVersion").finish_non_exhaustive()
+    }
+}
+
+/// A key at which two versions differ, with what the older one and the newer one have there.
+pub type Difference = (Digest, Option<Digest>, Option<Digest>);
+
 /// Entries and forks, and which of them a map has.
-#[derive(Clone)]
 pub struct Memory {
     pub head: sys::KeptMap,
     entries: Vec<Entry>,
     forks: Vec<Fork>,
     // how many forks the map had when no other ones were there
     own_forks: usize,
+    // the same while older heads have their maps
+    lineage: u64,
+}
+
+impl Clone for Memory {
+    fn clone(&self) -> Memory {
+        Memory {
+            head: self.head,
+            entries: self.entries.clone(),
+            forks: self.forks.clone(),
+            own_forks: self.own_forks,
+            lineage: lineage(),
+        }
+    }
 }
 
 impl Memory {
@@ -91,6 +128,7 @@ impl Memory {
             entries: Vec::new(),
             forks: Vec::new(),
             own_forks: 0,
+            lineage: lineage(),
         }
     }
 
@@ -200,6 +238,98 @@ impl Memory {
         })
     }
 
+    // The bytes of a tree of the map, which a call writes, and which may want more room.
+    fn tree(&self, call: impl Fn(*mut u8, usize, *mut usize) -> i32) -> Result<Vec<u8>, Refused> {
+        let mut needed = 0;
+        match call(core::ptr::NonNull::dangling().as_ptr(), 0, &mut needed) {
+            sys::ROOM => crate::written(needed, call),
+            refused => Err(Refused::of(refused)),
+        }
+    }
+
+    /// The bytes of a tree that shows what the map has at keys that rise, and hides the rest.
+    pub fn prove_many(&self, keys: &[Digest]) -> Result<Vec<u8>, Refused> {
+        self.tree(|bytes, room, count| {
+            // SAFETY: as in `prove`; the keys are a borrowed slice of so many.
+            unsafe {
+                sys::paxidore_kept_map_prove_many(
+                    bytes,
+                    room,
+                    count,
+                    &self.head,
+                    self.entries.as_ptr().cast(),
+                    self.entries.len(),
+                    self.forks.as_ptr().cast(),
+                    self.forks.len(),
+                    keys.as_ptr().cast(),
+                    keys.len(),
+                )
+            }
+        })
+    }
+
+    /// The bytes of a tree that shows all that the map has from one key to another, both with them, and hides the rest.
+    pub fn prove_range(&self, first: &Digest, last: &Digest) -> Result<Vec<u8>, Refused> {
+        self.tree(|bytes, room, count| {
+            // SAFETY: as in `prove`.
+            unsafe {
+                sys::paxidore_kept_map_prove_range(
+                    bytes,
+                    room,
+                    count,
+                    &self.head,
+                    self.entries.as_ptr().cast(),
+                    self.entries.len(),
+                    self.forks.as_ptr().cast(),
+                    self.forks.len(),
+                    first.as_ptr(),
+                    last.as_ptr(),
+                )
+            }
+        })
+    }
+
+    /// The map as it is.
+    pub fn version(&self) -> MapVersion {
+        MapVersion {
+            head: self.head,
+            lineage: self.lineage,
+        }
+    }
+
+    /// Whether the memory still has the map of a version.
+    pub fn keeps(&self, version: &MapVersion) -> bool {
+        version.lineage == self.lineage
+    }
+
+    /// The least key that is not below another at which the map differs from a version that the memory has.
+    pub fn differs(&self, version: &MapVersion, from: &Digest) -> Option<Difference> {
+        let (mut key, mut old, mut new) = ([0; 32], [0; 32], [0; 32]);
+        let (mut has_old, mut has_new) = (0, 0);
+        // SAFETY: as in `get`; what is written is of this function.
+        let answer = unsafe {
+            sys::paxidore_kept_map_differ(
+                key.as_mut_ptr(),
+                old.as_mut_ptr(),
+                &mut has_old,
+                new.as_mut_ptr(),
+                &mut has_new,
+                &version.head,
+                &self.head,
+                self.entries.as_ptr().cast(),
+                self.entries.len(),
+                self.forks.as_ptr().cast(),
+                self.forks.len(),
+                from.as_ptr(),
+            )
+        };
+        (answer == 0).then_some((
+            key,
+            (has_old == 1).then_some(old),
+            (has_new == 1).then_some(new),
+        ))
+    }
+
     // How many forks belong to the map.
     fn fork_count(&self) -> usize {
         let (mut count, mut parts) = (0, vec![self.head.top]);
@@ -239,6 +369,7 @@ impl Memory {
             return Err(Refused::of(answer));
         }
         self.own_forks = head.forks;
+        self.lineage = lineage();
         (self.entries, self.forks, self.head) = (entries, forks, head);
         Ok(())
     }

@@ -424,7 +424,8 @@ extern "C" {
     ) -> i32;
 }
 
-// The answer that pieces of a file are to be read first.
+// The answers that a buffer is too short, and that pieces of a file are to be read first.
+pub const ROOM: i32 = -9;
 pub const MORE: i32 = -10;
 
 /// Some bytes of a file: where they begin, and how many they are.
@@ -516,6 +517,14 @@ extern "C" {
         proof_len: usize,
     ) -> i32;
     pub fn paxidore_map_root(root: *mut u8, tree: *const u8, tree_len: usize) -> i32;
+    pub fn paxidore_map_next(
+        next_key: *mut u8,
+        next_value: *mut u8,
+        tree: *const u8,
+        tree_len: usize,
+        first: *const u8,
+        last: *const u8,
+    ) -> i32;
     pub fn paxidore_map_prove(
         proof: *mut u8,
         proof_room: usize,
@@ -604,6 +613,44 @@ extern "C" {
         map_forks: *const u8,
         map_forks_room: usize,
         key: *const u8,
+    ) -> i32;
+    pub fn paxidore_kept_map_prove_many(
+        proof: *mut u8,
+        proof_room: usize,
+        proof_len: *mut usize,
+        map: *const KeptMap,
+        map_entries: *const u8,
+        map_entries_room: usize,
+        map_forks: *const u8,
+        map_forks_room: usize,
+        keys: *const u8,
+        keys_count: usize,
+    ) -> i32;
+    pub fn paxidore_kept_map_prove_range(
+        proof: *mut u8,
+        proof_room: usize,
+        proof_len: *mut usize,
+        map: *const KeptMap,
+        map_entries: *const u8,
+        map_entries_room: usize,
+        map_forks: *const u8,
+        map_forks_room: usize,
+        first: *const u8,
+        last: *const u8,
+    ) -> i32;
+    pub fn paxidore_kept_map_differ(
+        next_key: *mut u8,
+        old_value: *mut u8,
+        has_old: *mut u8,
+        new_value: *mut u8,
+        has_new: *mut u8,
+        old_map: *const KeptMap,
+        map: *const KeptMap,
+        map_entries: *const u8,
+        map_entries_room: usize,
+        map_forks: *const u8,
+        map_forks_room: usize,
+        from: *const u8,
     ) -> i32;
     pub fn paxidore_kept_map_copy(
         to_map: *mut KeptMap,

@@ -2,7 +2,7 @@
 #![cfg(feature = "std")]
 
 use paxidore::{Digest, Map, Refused};
-use std::collections::BTreeMap;
+use std::collections::{BTreeMap, BTreeSet};
 
 fn sha256(parts: &[&[u8]]) -> Digest {
     paxidore::sha256(&parts.concat())
@@ -49,6 +49,7 @@ fn rounds() -> u64 {
 #[test]
 fn agrees_with_the_definition() -> Result<(), Refused> {
     let (mut map, mut entries, mut state) = (Map::new(), BTreeMap::new(), 6962u64);
+    let (mut old, mut older) = (map.version(), BTreeMap::new());
     let mut drawn = |bound: u64| {
         state ^= state << 13;
         state ^= state >> 7;
@@ -94,6 +95,33 @@ fn agrees_with_the_definition() -> Result<(), Refused> {
             Map::prove_by_tree(&map.witness(&[(asked, None)]), &asked)?,
             proof
         );
+        let told: Vec<_> = map.differences(&old).into_iter().flatten().collect();
+        let keys: BTreeSet<Digest> = older.keys().chain(entries.keys()).copied().collect();
+        let wanted: Vec<_> = keys
+            .into_iter()
+            .map(|key| (key, older.get(&key).copied(), entries.get(&key).copied()))
+            .filter(|(_, old, new)| old != new)
+            .collect();
+        assert!(map.differences(&old).is_none() || told == wanted);
+        assert!(map.clone().differences(&map.version()).is_none());
+        if turn % 3 == 0 {
+            (old, older) = (map.version(), entries.clone());
+        }
+        let (first, last) = (near(drawn(60)), near(drawn(60)));
+        let tree = map.prove_range(&first, &last)?;
+        let there: Vec<(Digest, Digest)> = all
+            .iter()
+            .filter(|(key, _)| first <= *key && *key <= last)
+            .copied()
+            .collect();
+        assert_eq!(
+            Map::verify_range(map.root(), &first, &last, &tree)?,
+            Some(there)
+        );
+        assert_eq!(Map::verify_range(&[9; 32], &first, &last, &tree)?, None);
+        let tree = map.prove_many(&[asked, first])?;
+        assert_eq!(Map::root_of_tree(&tree)?, *map.root());
+        assert_eq!(Map::prove_by_tree(&tree, &asked)?, proof);
         if turn % 50 == 0 {
             assert_eq!(map.entries(), all);
             assert!(map.check()?);

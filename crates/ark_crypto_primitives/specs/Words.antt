@@ -32,7 +32,11 @@ pub use Rattle.merkle_map.specs.Map.{value_at as map_value, without as map_witho
 pub use Rattle.merkle_map.specs.Kept.{IsShownIn, MapValue}
 pub use Rattle.kept_map.specs.Changed.{HasForkRoom, HasPutRoom, IsOlder, KeepsSame}
 pub use Rattle.kept_map.specs.KeptMap.{KeepsMap, kept_hashes}
-pub use Rattle.kept_map.specs.Order.{HasNoneFrom, IsKeyBelow, IsNextEntry}
+pub use Rattle.kept_map.specs.Between.{IsBetween, IsTreeBetween}
+pub use Rattle.kept_map.specs.Differ.{HaveSameFrom, IsDifference, IsFirstApart}
+pub use Rattle.kept_map.specs.Many.{IsRising, IsShownAt, IsTreeFor}
+pub use Rattle.merkle_map.specs.Order.{HasNext, HasNoneBetween, HasNoneFrom, IsFirstBetween, IsKeyBelow, IsNextEntry}
+pub use Rattle.merkle_map.specs.Order.{IsNextKnown, IsOutside}
 pub use Rattle.merkle_map.specs.Shown.{BindsTree, Follows as MapFollows, FollowsBy as MapFollowsBy, Has as MapHas}
 -- what a sponge absorbs, and sponges
 pub use Rattle.ark_absorb.specs.Appending.{AppendsBytes, AppendsElements}

@@ -10,6 +10,11 @@ pub mod Putting
 pub mod Removing
 pub mod Stored
 pub mod Wholly
+pub mod Rising
+pub mod Written
+pub mod Betweens
+pub mod Differs
+pub mod Differing
 pub mod Lies
 pub mod Rehashing
 pub mod UnderHeads

@@ -3,7 +3,7 @@ use Rattle.std.proofs.Common.{◌≡◌, ◌<◌, ◌≤◌, ◌+◌, ◌*◌, �
 use Rattle.std.proofs.lemmas.List.{length-take}
 use Rattle.merkle_map.specs.Map.{MapHashes}
 use Rattle.merkle_map.specs.Tree.{Shape, Empty, One, Fork, Hidden, StandsAt, shape_digest, weight}
-use Rattle.kept_map.specs.KeptMap.{IsKeptFor, LaidAt, kept_digest, entry_in, left_at, right_at}
+use Rattle.kept_map.specs.KeptMap.{IsKeptFor, LaidAt, entry_in, fork_count, kept_digest, left_at, right_at}
 use Rattle.kept_map.specs.Parts.{IsThere, part_number}
 use Rattle.kept_map.specs.declared.nodes.Part.{Part}
 use Rattle.kept_map.specs.declared.nodes.Part.TheVariants.{Nothing, Entry as EntryAt, Fork as ForkAt}
@@ -87,4 +87,30 @@ sides-stand level bits tree left right long is stands =
       on_right = s.3;
       long = λ b. omega
           (arith, long);
+    }
+
+-- A fork lies there, some levels below the root where bits lead, and its sides at the numbers that it has.
+pub record IsForkBelow (h : MapHashes) (entries forks : List (List ℕ)) (k level : ℕ) (bits : List Bool) (tree : Shape)
+    : Type 0 where
+  pub left : Shape
+  pub right : Shape
+  pub is : tree ≡ Fork left right
+  pub on_left : LaidAt h entries forks k (left_at forks k) left
+  pub on_right : LaidAt h entries forks k (right_at forks k) right
+  pub sides : AreSides level bits left right
+  pub counts : fork_count tree ≡ 1 + (fork_count left + fork_count right)
+
+pub fork-below : (h : MapHashes) (entries forks : List (List ℕ)) (count number k level : ℕ) (bits : List Bool)
+    (tree : Shape) → number ≡ 2 * k + 2 → LaidAt h entries forks count number tree → StandsAt bits tree
+    → length bits ≡ level → IsForkBelow h entries forks k level bits tree
+fork-below h entries forks count number k level bits tree e lies stands long =
+    let it = lies-fork h entries forks count number k tree e lies in
+    record {
+      left = it.left;
+      right = it.right;
+      is = it.is;
+      on_left = it.on_left;
+      on_right = it.on_right;
+      sides = sides-stand level bits tree it.left it.right long it.is stands;
+      counts = ap fork_count it.is;
     }

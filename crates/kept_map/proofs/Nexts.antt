@@ -5,7 +5,8 @@ use Rattle.merkle_map.specs.Tree.{Shape, Empty, Fork, StandsAt, way, weight}
 use Rattle.merkle_map.specs.Whole.{entries_of}
 use Rattle.merkle_map.proofs.Keys.{length-way}
 use Rattle.kept_map.specs.KeptMap.{entry_in, left_at, right_at}
-use Rattle.kept_map.specs.Order.{HasNoneFrom, IsFirstEntry, IsFirstAt, IsKeyBelow, IsNextEntry, IsNextAt}
+use Rattle.merkle_map.specs.Order.{HasNoneFrom, IsFirstEntry, IsKeyBelow, IsNextEntry}
+use Rattle.kept_map.specs.Order.{IsFirstAt, IsNextAt}
 use Rattle.kept_map.proofs.Climbing.{lies-one}
 use Rattle.kept_map.proofs.Lies.{AreSides, IsForkOf, lies-fork, lies-nothing, sides-stand}
 use Rattle.kept_map.proofs.Ordered.{first-left, first-only, next-first, next-left, next-only, next-right, none-left, none-only, none-right}

@@ -6,3 +6,6 @@ pub mod Parts
 pub mod Digests
 pub mod Order
 pub mod Checking
+pub mod Many
+pub mod Between
+pub mod Differ

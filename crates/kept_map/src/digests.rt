@@ -14,6 +14,13 @@ pub(crate) fn is_unhashed(digest: &[u8; 32]) -> bool
     *digest == [0; 32]
 }
 
+/// Returns whether two digests are the same.
+pub(crate) fn are_same_digests(a: &[u8; 32], b: &[u8; 32]) -> bool
+    ensures { result ≡ bytes_eq a.now b.now }
+{
+    *a == *b
+}
+
 /// Returns whether what stands at a fork is its digest, or says that the fork is not hashed yet.
 pub(crate) fn is_kept_for(kept: &[u8; 32], digest: &[u8; 32]) -> bool
     ensures yes { result ≡ true → IsKeptFor (Ok digest.now) kept.now }

@@ -1,31 +1,18 @@
 //! The entries of a map in memory, one after another.
 
-ghost use Rattle.std.specs.Prelude.{◌≡◌, ◌<◌, ◌≤◌, true, false, take, length, Bool, IfErr, IfOk, IsOk, List, MatchOption, IfSome, ℕ};
+ghost use Rattle.std.specs.Prelude.{◌≡◌, ◌<◌, ◌≤◌, take, length, Bool, IfErr, IfOk, IsOk, List, MatchOption, IfSome, ℕ};
 ghost use Rattle.kept_map.specs.KeptMap.{KeepsMap, LaidAt};
-ghost use Rattle.kept_map.specs.Order.{HasNoneFrom, IsFirstAt, IsKeyBelow, IsNextEntry, IsNextAt};
+ghost use Rattle.kept_map.specs.Order.{IsFirstAt, IsNextAt};
 ghost use Rattle.kept_map.specs.declared.head.MapFault.TheVariants.{NoMap};
 ghost use Rattle.merkle_map.specs.Changes.{entry_of};
 ghost use Rattle.merkle_map.specs.Map.{Entry, MapHashes};
+ghost use Rattle.merkle_map.specs.Order.{HasNoneFrom, IsNextEntry};
 ghost use Rattle.merkle_map.specs.Tree.{Shape, StandsAt, way};
 
 use crate::digests::LEVELS;
 use crate::head::{Head, MapFault};
 use crate::nodes::{Part, key_at, left_at, part_of, right_at, value_at};
-use merkle_map::bit_of;
-
-// Returns whether a key is below another.
-fn is_below(a: &[u8; 32], b: &[u8; 32]) -> bool
-    ensures below { result ≡ true → IsKeyBelow a.now b.now }
-    ensures above { result ≡ false → ¬ IsKeyBelow a.now b.now }
-{
-    'bits: for level in 0..LEVELS {
-        let bit = bit_of(b, level);
-        if bit_of(a, level) != bit {
-            return bit;
-        }
-    }
-    false
-}
+use merkle_map::{bit_of, is_key_below};
 
 // Returns the place of the first entry that a number leads to, some levels below the root. Errors: `NoMap`, also where it names
 // nothing.
@@ -81,7 +68,7 @@ fn next_in(
     match part_of(number, entries.len(), count)? {
         Part::Nothing => Ok(None),
         Part::Entry(place) => {
-            if is_below(&key_at(entries, place), from) {
+            if is_key_below(&key_at(entries, place), from) {
                 return Ok(None);
             }
             Ok(Some(place))

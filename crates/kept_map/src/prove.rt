@@ -15,6 +15,7 @@ use crate::digests::{LEVELS, is_unhashed};
 use crate::hash::KeptHash;
 use crate::head::{Head, MapFault};
 use crate::nodes::{Part, kept_digest, key_at, left_at, part_of, right_at, value_at};
+use ark_base::error::Error;
 use merkle_map::{End, Entry, KeyProof, are_same_keys, bit_of};
 use std::alloc::{AllocError, AllocFailed, Global};
 
@@ -25,6 +26,8 @@ pub enum ProveFault {
     OutOfMemory,
     /// The memory holds no map under this head.
     NoMap,
+    /// A key is below the one before it.
+    Order,
 }
 
 impl From<MapFault> for ProveFault {
@@ -32,6 +35,15 @@ impl From<MapFault> for ProveFault {
 
     fn from(_fault: MapFault) -> ProveFault {
         ProveFault::NoMap
+    }
+}
+
+// The writers of bytes have no error but `OutOfMemory`.
+impl From<Error> for ProveFault {
+    ghost from_gives = { λ _ fault. fault ≡ OutOfMemory };
+
+    fn from(_refused: Error) -> ProveFault {
+        ProveFault::OutOfMemory
     }
 }
 
@@ -43,9 +55,9 @@ impl<T: Drop> From<AllocFailed<T>> for ProveFault {
     }
 }
 
-// Hashes what a number names some levels below the root, as far as no digest is there. It hashes no more forks than may still be
-// hashed, and counts them. Errors: `NoMap`.
-fn digest_of<H: KeptHash>(
+/// Hashes what a number names some levels below the root, as far as no digest is there. It hashes no more forks than may still be
+/// hashed, and counts them. Errors: `NoMap`.
+pub(crate) fn digest_of<H: KeptHash>(
     entries: &[[u8; 64]],
     forks: &[[u8; 48]],
     number: u64,

@@ -26,5 +26,7 @@ pub mod Hashed
 pub mod Hashing
 pub mod Ahead
 pub mod Back
+pub mod Ordered
+pub mod NextShown
 mod Ready
 mod Witness

@@ -49,7 +49,7 @@ module _ (h : MapHashes) where
     pub weighs : weight new ≡ weight old
     pub stands : StandsAt bits old → StandsAt bits new
 
-  same : (level : ℕ) (bits : List Bool) (s n : Shape) → gives s ≡ Ok n → IsCopy level bits s n
+  pub same : (level : ℕ) (bits : List Bool) (s n : Shape) → gives s ≡ Ok n → IsCopy level bits s n
   same level bits s n e = moved (IsCopy level bits s) s n e (record {
     digest = refl;
     shows = λ entries shown. shown;
@@ -57,7 +57,7 @@ module _ (h : MapHashes) where
     stands = λ stands. stands;
   })
 
-  forks : (level : ℕ) (bits : List Bool) (l r m n : Shape) → IsCopy (suc level) (false ∷ bits) l m
+  pub forks : (level : ℕ) (bits : List Bool) (l r m n : Shape) → IsCopy (suc level) (false ∷ bits) l m
       → IsCopy (suc level) (true ∷ bits) r n → IsCopy level bits (Fork l r) (Fork m n)
   forks level bits l r m n on_left on_right = record {
     digest = ap (λ o. o >>= λ a. shape_digest h n >>= λ b. h.pair a b) on_left.digest
@@ -84,7 +84,7 @@ module _ (h : MapHashes) where
   covered-by digest left right =
       if bytes_eq digest h.nothing then covered-both left right else gives (Hidden digest)
 
-  covers : (level : ℕ) (bits : List Bool) (s n : Shape) → covered h s ≡ Ok n → IsCopy level bits s n
+  pub covers : (level : ℕ) (bits : List Bool) (s n : Shape) → covered h s ≡ Ok n → IsCopy level bits s n
   covers level bits Empty n e = same level bits Empty n e
   covers level bits (One entry) n e = same level bits (One entry) n e
   covers level bits (Hidden digest) n e = same level bits (Hidden digest) n e

@@ -7,7 +7,7 @@ use Rattle.merkle_map.specs.Map.{Key, Digest, Entry, Node, Leaf, Pair, MapHashes
 use Rattle.merkle_map.proofs.Entries.{map-filter}
 
 -- what a side has
-side-has : (b : Bool) (level : ℕ) (key : Key) (xs : List Entry)
+pub side-has : (b : Bool) (level : ℕ) (key : Key) (xs : List Entry)
     → value_at key (side b level xs) ≡ cond (has_bit b level key) (value_at key xs) None
 side-has b level key [] = nothing (has_bit b level key)
   where

@@ -9,6 +9,7 @@ pub mod Rests
 pub mod Shown
 pub mod Pruned
 pub mod Binding
+pub mod Order
 pub mod Sha256
 pub mod Together
 pub mod Transition

@@ -25,7 +25,19 @@ pub fn push_string(string: &[u8; 32], dest: &mut Vec<u8>) -> Result<(), Error>
     Ok(())
 }
 
-// Writes a digest alone behind other bytes. The only error is `OutOfMemory`.
+/// Writes the bytes of the tree of one entry behind others. The only error is `OutOfMemory`.
+pub fn push_entry(key: &[u8; 32], value: &[u8; 32], dest: &mut Vec<u8>) -> Result<(), Error>
+    ensures written { OnOk result (dest.new.items
+        ≡ dest.old.items ++ spelled (One (entry_of key.now value.now))) }
+    ensures memory { IfErr result IsMemory }
+    ensures sized { IsOf32 (One (entry_of key.now value.now)) }
+{
+    dest.push(0)?;
+    push_string(key, dest)?;
+    push_string(value, dest)
+}
+
+/// Writes the bytes of a tree of which only the digest is known behind others. The only error is `OutOfMemory`.
 pub fn push_hidden(digest: &[u8; 32], dest: &mut Vec<u8>) -> Result<(), Error>
     ensures written { OnOk result (dest.new.items ≡ dest.old.items ++ spelled (Hidden digest.now)) }
     ensures memory { IfErr result IsMemory }
@@ -47,12 +59,7 @@ pub fn write_part(part: &Part<[u8; 32]>, dest: &mut Vec<u8>) -> Result<(), Error
             dest.push(2)?;
             Ok(())
         }
-        Part::One { entry } => {
-            dest.push(0)?;
-            push_string(&entry.key, dest)?;
-            push_string(&entry.value, dest)?;
-            Ok(())
-        }
+        Part::One { entry } => { push_entry(&entry.key, &entry.value, dest) }
         Part::Fork { sides } => {
             dest.push(1)?;
             write_part(&sides.left, dest)?;

@@ -1,9 +1,10 @@
 //! Keys and digests compared, and bits of keys.
 
-ghost use Rattle.std.specs.Prelude.{◌≡◌, ◌<◌, Ok};
+ghost use Rattle.std.specs.Prelude.{◌≡◌, ◌<◌, false, true, Ok};
 ghost use Rattle.std.specs.Str.{bytes_eq};
 ghost use Rattle.ark_base.specs.Outcome.{AnswersBy};
 ghost use Rattle.merkle_map.specs.Map.{bit_of as bit_in, has_bit as has_bit_in};
+ghost use Rattle.merkle_map.specs.Order.{IsKeyBelow};
 
 use ark_base::error::Error;
 use ark_base::serialize::DigestItem;
@@ -27,6 +28,20 @@ pub fn has_bit(key: &[u8; 32], level: usize, bit: bool) -> bool
     } else {
         !bit_of(key, level)
     }
+}
+
+/// Returns whether a key is below another: whether it has 0 at the first bit in which they differ.
+pub fn is_key_below(a: &[u8; 32], b: &[u8; 32]) -> bool
+    ensures below { result ≡ true → IsKeyBelow a.now b.now }
+    ensures above { result ≡ false → ¬ IsKeyBelow a.now b.now }
+{
+    'bits: for level in 0..256 {
+        let bit = bit_of(b, level);
+        if bit_of(a, level) != bit {
+            return bit;
+        }
+    }
+    false
 }
 
 /// Returns whether two keys are the same.

@@ -1,12 +1,13 @@
 //! Trees with a hidden top, of which the digest takes no memory of its own.
 
-ghost use Rattle.std.specs.Prelude.{◌≡◌, ◌++◌, [], false, map, IfErr, IfOk, OnErr, OnOk};
+ghost use Rattle.std.specs.Prelude.{◌≡◌, ◌++◌, [], false, true, map, IfErr, IfOk, OnErr, OnOk};
 ghost use Rattle.ark_base.specs.Outcome.{AnswersBy, IsMemory};
 ghost use Rattle.merkle_map.specs.Bytes.{itself, spelled, IsOf32};
 ghost use Rattle.merkle_map.specs.Changes.{entry_of, known_at, tree_without, with_value};
 ghost use Rattle.merkle_map.specs.Kept.{IsTopKept};
 ghost use Rattle.merkle_map.specs.KeyProof.{behind_all, proof_at, seen_with};
 ghost use Rattle.merkle_map.specs.Map.{MapHashes, put, without};
+ghost use Rattle.merkle_map.specs.Order.{next_seen, IsNextKnown};
 ghost use Rattle.merkle_map.specs.Parts.{found_seen, shape, top_shape};
 ghost use Rattle.merkle_map.specs.Pruned.{pruned, FitsKeys};
 ghost use Rattle.merkle_map.specs.Rows.{rows_behind, rows_of};
@@ -17,6 +18,7 @@ use crate::bytes::{push_hidden, write_part};
 use crate::fill::{fill, forget_in};
 use crate::hasher::{MapHasher, MapViews};
 use crate::key::copy_digest;
+use crate::next::next_shown;
 use crate::part::{Entry, Part, digest_of, find_entry, hidden};
 use crate::proof::{End, climb_down};
 use crate::prune::prune_in;
@@ -48,6 +50,22 @@ pub fn find_top<'a, D: DigestItem>(
 {
     match top {
         Top::Shown { part } => find_entry(part, 0, key),
+        Top::Digest { .. } => Err(hidden()),
+    }
+}
+
+// As `next_shown`.
+pub fn next_top<D: DigestItem>(
+    top: &Top<D>,
+    first: &[u8; 32],
+    last: &[u8; 32],
+) -> Result<Option<([u8; 32], [u8; 32])>, Error>
+    requires { FitsKeys 0 (top_shape D.numbers top.now) }
+    ensures { IsNextKnown true true 0 first.now last.now (top_shape D.numbers top.now)
+        (next_seen result) }
+{
+    match top {
+        Top::Shown { part } => next_shown(part, 0, first, last, false, true, true),
         Top::Digest { .. } => Err(hidden()),
     }
 }

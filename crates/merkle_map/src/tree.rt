@@ -7,6 +7,7 @@ ghost use Rattle.merkle_map.specs.Changes.{known_at, tree_with_value, tree_witho
 ghost use Rattle.merkle_map.specs.Kept.{IsTopKept};
 ghost use Rattle.merkle_map.specs.KeyProof.{proof_at, proof_seen, IsKeyProofAccepted};
 ghost use Rattle.merkle_map.specs.Map.{Entry as EntryOf, MapHashes, put, root_of_map, without};
+ghost use Rattle.merkle_map.specs.Order.{next_seen, pair_seen, HasNext, IsNextKnown};
 ghost use Rattle.merkle_map.specs.Parts.{found_seen, top_shape, value_seen};
 ghost use Rattle.merkle_map.specs.Pruned.{pruned, CanChange, CanLose, KnowsSame, ShowsSame};
 ghost use Rattle.merkle_map.specs.Rows.{rows_of};
@@ -21,8 +22,8 @@ use crate::part::Part;
 use crate::proof::KeyProof;
 use crate::together::FEW;
 use crate::top::{
-    Top, climb_top, digest_of_top, fill_top, find_top, forget_top, prune_top, push_rows_of_top,
-    put_top, remove_top, write_top,
+    Top, climb_top, digest_of_top, fill_top, find_top, forget_top, next_top, prune_top,
+    push_rows_of_top, put_top, remove_top, write_top,
 };
 use ark_base::error::Error;
 use ark_base::serialize::DigestItem;
@@ -104,6 +105,23 @@ impl<D: DigestItem> MapTree<D> {
             (value_seen (λ value. value.now) found)) }
     {
         find_top(&self.top, key)
+    }
+
+    /// Returns the entry with the least key from `first` to `last`, both with them, or `None` where there is none: its key and its
+    /// value. From a key above each that was found, these are all entries to `last`: so a tree that hides nothing there is their
+    /// proof. The error is `HIDDEN`: the tree hides a part that may have it.
+    pub fn next(
+        &self,
+        first: &[u8; 32],
+        last: &[u8; 32],
+    ) -> Result<Option<([u8; 32], [u8; 32])>, Error>
+        ensures next { IsNextKnown true true 0 first.now last.now self.now (next_seen result) }
+
+        // Each map that the tree shows has this entry there first, or none.
+        ensures maps { IfOk result (λ found. HasNext self.now first.now last.now
+            (pair_seen found)) }
+    {
+        next_top(&self.top, first, last)
     }
 
     /// Puts a value at a key.

@@ -1,5 +1,5 @@
 -- What calls on maps show.
-use Rattle.std.proofs.Common.{◌≡◌, ℕ, List, Bool, true, Option, Result, Ok, Err, IfOk, IfSome, if◌then◌else◌, false, nat_lt, length, ap, sym, ◌∙◌, subst}
+use Rattle.std.proofs.Common.{◌≡◌, ◌⊎◌, inl, inr, ℤ, ℕ, List, Bool, true, Option, Result, Ok, Err, IfOk, IfSome, if◌then◌else◌, false, nat_lt, length, ap, sym, ◌∙◌, subst}
 use Rattle.ark_base.specs.declared.error.Error.{Error}
 use Rattle.ark_base.specs.Laws.Steps.{done_injective}
 use Rattle.ark_base.specs.Outcome.{Outcome, ◌>>=◌, AnswersBy}
@@ -14,7 +14,9 @@ use Rattle.merkle_map.specs.Tree.{Shape}
 use Rattle.merkle_map.proofs.ProofReading.{reads-proof-back}
 use Rattle.paxidore_calls.specs.Answer.{CallGivesBy}
 use Rattle.paxidore_c.specs.KeptMaps.{IsShownBy}
-use Rattle.paxidore_c.specs.Maps.{refusing_map, IsProvedBy}
+use Rattle.ark_base.specs.declared.error.Error.TheVariants.{OutOfMemory}
+use Rattle.merkle_map.specs.Order.{next_seen}
+use Rattle.paxidore_c.specs.Maps.{refusing_map, GivesNext, IsNextOf, IsProvedBy, next_code}
 use Rattle.paxidore_calls.specs.declared.refused.Refused.{Refused}
 
 -- what is shown of a proof that was read is shown of the bytes
@@ -73,3 +75,17 @@ led digest root given tree own wanted result is same leads =
     IfOk o (λ t. LeadsTo sha256_map root (digest made) t wanted)))) (sym is)
     (subst (λ changes. IfOk result (λ found. IfSome found (λ made. LeadsTo sha256_map root (digest made) tree changes)))
     same leads)
+
+-- ---- the entries from one key to another
+
+-- an entry that was found, as an outcome
+abbrev gives_next : Option (Key × Digest) → Outcome (Option (Key × Digest))
+gives_next found = Ok found
+
+-- what a call found in the tree that bytes are
+pub found-gives : (tree : List ℕ) (first last : Key) (field found : Option (Key × Digest)) → field ≡ found
+    → (gives_next field ≡ Err OutOfMemory) ⊎ IsNextOf tree first last (next_seen (Ok field))
+    → GivesNext tree first last (next_code (next_seen (Ok found)))
+found-gives tree first last field found same (inl memory) = absurd cc
+found-gives tree first last field found same (inr is) =
+    inr (next_seen (Ok field), is, ap (λ f. next_code (next_seen (Ok f))) (sym same))

@@ -1,5 +1,5 @@
 -- What calls on maps answer, in the hashing of maps over SHA-256.
-use Rattle.std.specs.Prelude.{◌≡◌, ℕ, nat_lt, not, List, [], ◌∷◌, length, ℤ, pos, Bool, if◌then◌else◌, Option, Some, None, Result, Ok, Err, IfOk, IfSome, true}
+use Rattle.std.specs.Prelude.{◌≡◌, ◌⊎◌, ℕ, nat_lt, not, List, [], ◌∷◌, length, ℤ, pos, Bool, if◌then◌else◌, Option, Some, None, Result, Ok, Err, IfOk, IfSome, MatchResult, true}
 use Rattle.ark_base.specs.declared.error.Error.{Error}
 use Rattle.ark_base.specs.declared.error.Error.TheVariants.{OutOfMemory, IncorrectInputLength, NotPrimeOrder, GenericError, SerializationError as OfBytes}
 use Rattle.ark_base.specs.Outcome.{Outcome, ◌>>=◌}
@@ -7,6 +7,7 @@ use Rattle.merkle_map.specs.Map.{Digest, Entry, Key, root_of_map}
 use Rattle.merkle_map.specs.Bytes.{tree_of_bytes}
 use Rattle.merkle_map.specs.Changes.{known_at}
 use Rattle.merkle_map.specs.KeyProof.{ProofSeen, proof_at, proof_verdict}
+use Rattle.merkle_map.specs.Order.{IsNextKnown}
 use Rattle.merkle_map.specs.ProofBytes.{proof_bytes, proof_of_bytes}
 use Rattle.merkle_map.specs.Sha256.{sha256_map}
 use Rattle.merkle_map.specs.Transition.{ChangeSeen, Puts, Removes, changed_rows}
@@ -41,6 +42,24 @@ key_proof_in bytes = proof_of_bytes sha256_map.nothing bytes
 -- whether the bytes of a proof show that a map with this root has this at the key: a value, or nothing
 abbrev pub key_verdict : Digest → Key → Option Digest → List ℕ → Outcome Bool
 key_verdict root key value proof = key_proof_in proof >>= proof_verdict sha256_map root key value
+
+-- ---- the entries of a tree from one key to another
+
+-- The outcome is the first entry from one key to another of the tree that bytes are.
+abbrev pub IsNextOf : List ℕ → Key → Key → Outcome (Option Entry) → Type 0
+IsNextOf tree first last outcome = MatchResult (tree_of_bytes tree)
+    (λ t. IsNextKnown true true 0 first last t outcome) (λ error. outcome ≡ Err error)
+
+-- the code of an entry, of none, or of their refusal
+abbrev pub next_code : Outcome (Option Entry) → ℤ
+next_code (Ok None) = pos 1
+next_code (Ok (Some entry)) = pos 0
+next_code (Err error) = refusal_code (map_refused error)
+
+-- A call gives the code of the outcome, or memory was refused.
+abbrev pub GivesNext : List ℕ → Key → Key → ℤ → Type 0
+GivesNext tree first last code = (code ≡ refusal_code Memory)
+    ⊎ ((outcome : Outcome (Option Entry)) × IsNextOf tree first last outcome × (code ≡ next_code outcome))
 
 -- ---- what is made of a tree's bytes
 

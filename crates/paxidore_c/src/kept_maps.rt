@@ -1,22 +1,30 @@
 //! Maps over SHA-256 that are kept in memory of the caller's: entries, forks, and a head. A proof is allocated, and freed before the
 //! call returns; nothing else is.
 
-ghost use Rattle.std.specs.Prelude.{◌≡◌, ◌≢◌, ◌⊎◌, List, ℕ, None, Ok, Some, pos, take, IfErr, IfOk};
+ghost use Rattle.std.specs.Prelude.{◌≡◌, ◌≢◌, ◌≤◌, ◌⊎◌, List, ℕ, None, Ok, Some, length, pos, take, IfErr, IfOk};
+ghost use Rattle.kept_map.specs.Between.{IsBetween, IsTreeBetween};
 ghost use Rattle.kept_map.specs.Changed.{HasForkRoom, HasPutRoom, IsOlder, KeepsSame};
-ghost use Rattle.kept_map.specs.Order.{HasNoneFrom, IsNextEntry};
+ghost use Rattle.kept_map.specs.Differ.{HaveSameFrom, IsDifference};
+ghost use Rattle.kept_map.specs.Many.{IsRising, IsShownAt, IsTreeFor};
 ghost use Rattle.kept_map.specs.declared.head.MapFault.TheVariants.{NoMap, Room};
-ghost use Rattle.paxidore_calls.specs.Answer.{refusal_code};
-ghost use Rattle.paxidore_calls.specs.declared.refused.Refused.TheVariants.{Memory};
+ghost use Rattle.kept_map.specs.declared.prove.ProveFault.TheVariants.{OutOfMemory};
+ghost use Rattle.paxidore_calls.specs.Answer.{refusal_code, Hands};
+ghost use Rattle.paxidore_calls.specs.declared.refused.Refused.TheVariants.{Index};
 ghost use Rattle.merkle_map.specs.Changes.{entry_of};
 ghost use Rattle.merkle_map.specs.Map.{put as with_value, Entry, root_of_map, value_at, without};
+ghost use Rattle.merkle_map.specs.Order.{HasNoneFrom, IsNextEntry};
+ghost use Rattle.merkle_map.specs.Pruned.{IsAmong};
 ghost use Rattle.merkle_map.specs.Sha256.{sha256_map};
-ghost use Rattle.paxidore_c.specs.KeptMaps.{fault_code, IsShownBy, KeepsSha256Map};
+ghost use Rattle.paxidore_c.specs.KeptMaps.{fault_code, proof_fault_code, HandsSome, IsOwnProof, IsShownBy, KeepsSha256Map, value_if};
 
+use kept_map::between::prove_between;
 use kept_map::check::check;
 use kept_map::copy::copy_to;
+use kept_map::differ::differ;
 use kept_map::find::get;
 use kept_map::hash::KeptSha256;
 use kept_map::head::{Head, MapFault};
+use kept_map::many::prove_many;
 use kept_map::next::next;
 use kept_map::prove::{ProveFault, prove};
 use kept_map::put::put;
@@ -200,9 +208,14 @@ fn proof_bytes_of(
     map_forks: &[[u8; 48]],
     key: &[u8; 32],
 ) -> Result<Vec<u8>, ProveFault>
-    ensures { IfOk result (λ bytes. (xs : List Entry)
+    ensures own { IfOk result (λ bytes. (xs : List Entry)
+        → KeepsSha256Map map_entries.now map_forks.now map.now xs
+        → IsOwnProof key.now xs bytes.items) }
+    ensures shown { IfOk result (λ bytes. (xs : List Entry)
         → KeepsSha256Map map_entries.now map_forks.now map.now xs
         → IsShownBy key.now xs bytes.items) }
+    ensures found { (xs : List Entry) → KeepsSha256Map map_entries.now map_forks.now map.now xs
+        → IfErr result (λ fault. fault ≡ OutOfMemory) }
 {
     match prove::<KeptSha256>(alloc, map_entries, map_forks, map, key) {
         Ok(proof) => match proof.to_bytes(alloc, &Sha256Map::new()) {
@@ -210,6 +223,22 @@ fn proof_bytes_of(
             Err(_) => Err(ProveFault::OutOfMemory),
         },
         Err(fault) => Err(fault),
+    }
+}
+
+// Hands the bytes of a proof over, or returns the code of its fault.
+fn hand_proof(made: Result<Vec<u8>, ProveFault>, proof: &mut [u8], proof_len: &mut usize) -> i32
+    ensures handed { IfOk made (λ bytes. Hands (Ok bytes.items) proof.old proof.new proof_len.old
+        proof_len.new result) }
+    ensures fault { IfErr made (λ fault. result ≡ proof_fault_code fault) }
+    ensures kept { result ≢ pos 0 → proof.new ≡ proof.old }
+    ensures uncounted { result ≢ pos 0 → result ≢ fault_code Room → proof_len.new ≡ proof_len.old }
+{
+    match made {
+        Ok(bytes) => hand_over(Ok(bytes), proof, proof_len),
+        Err(ProveFault::OutOfMemory) => Refused::Memory.code(),
+        Err(ProveFault::NoMap) => -14,
+        Err(ProveFault::Order) => Refused::Index.code(),
     }
 }
 
@@ -230,16 +259,75 @@ pub extern "C" fn paxidore_kept_map_prove(
     // The map's root accepts what is written.
     ensures accepted { (xs : List Entry) → KeepsSha256Map map_entries.now map_forks.now map.now xs
         → result ≡ pos 0 → IsShownBy key.now xs (take proof_len.new proof.new) }
-    ensures codes { (result ≡ pos 0) ⊎ (result ≡ fault_code Room) ⊎ (result ≡ fault_code NoMap)
-        ⊎ (result ≡ refusal_code Memory) }
+
+    // Of a map it is refused for want of room for the proof that its tree has, or of memory, alone.
+    ensures done { (xs : List Entry) → KeepsSha256Map map_entries.now map_forks.now map.now xs
+        → HandsSome (IsOwnProof key.now xs) proof.old proof.new proof_len.old proof_len.new result }
     ensures kept { result ≢ pos 0 → proof.new ≡ proof.old }
     ensures uncounted { result ≢ pos 0 → result ≢ fault_code Room → proof_len.new ≡ proof_len.old }
 {
-    match proof_bytes_of(alloc, map, map_entries, map_forks, key) {
-        Ok(bytes) => hand_over(Ok(bytes), proof, proof_len),
-        Err(ProveFault::OutOfMemory) => Refused::Memory.code(),
-        Err(ProveFault::NoMap) => -14,
-    }
+    let made = proof_bytes_of(alloc, map, map_entries, map_forks, key);
+    hand_proof(made, proof, proof_len)
+}
+
+/// Writes the bytes of the proof of what a map has at some keys that rise to the front of `proof`, and their count: the bytes of a tree,
+/// for `paxidore_map_next` and the other calls on trees.
+///
+/// Answers: 0; `E_INDEX`, where a key is below the one before it; `E_DAMAGED`, where memory holds no map under the head; `E_ROOM`, which
+/// alone writes the count that is needed; `E_MEMORY` in place of any. Any other refusal than `E_ROOM` leaves both buffers as before.
+#[unsafe(no_mangle)]
+pub extern "C" fn paxidore_kept_map_prove_many(
+    alloc: Global,
+    proof: &mut [u8],
+    proof_len: &mut usize,
+    map: &Head,
+    map_entries: &[[u8; 64]],
+    map_forks: &[[u8; 48]],
+    keys: &[[u8; 32]],
+) -> i32
+    // Whoever reads it finds the map's root, and what the map has at each of the keys.
+    ensures accepted { (xs : List Entry) → KeepsSha256Map map_entries.now map_forks.now map.now xs
+        → result ≡ pos 0 → IsShownAt sha256_map (λ key. IsAmong key keys.now) xs
+        (take proof_len.new proof.new) }
+    ensures done { (xs : List Entry) → KeepsSha256Map map_entries.now map_forks.now map.now xs
+        → IsRising keys.now → HandsSome (IsTreeFor sha256_map keys.now xs)
+        proof.old proof.new proof_len.old proof_len.new result }
+    ensures order { ¬ IsRising keys.now → result ≡ refusal_code Index }
+    ensures kept { result ≢ pos 0 → proof.new ≡ proof.old }
+    ensures uncounted { result ≢ pos 0 → result ≢ fault_code Room → proof_len.new ≡ proof_len.old }
+{
+    let made = prove_many::<KeptSha256>(alloc, map_entries, map_forks, map, keys);
+    hand_proof(made, proof, proof_len)
+}
+
+/// Writes the bytes of the proof of all that a map has from `first` to `last`, both with them, to the front of `proof`, and their count:
+/// the bytes of a tree that hides nothing there, in which `paxidore_map_next` finds the entries.
+///
+/// Answers: 0; `E_DAMAGED`, where memory holds no map under the head; `E_ROOM`, which alone writes the count that is needed; `E_MEMORY`
+/// in place of either. Any other refusal than `E_ROOM` leaves both buffers as before.
+#[unsafe(no_mangle)]
+pub extern "C" fn paxidore_kept_map_prove_range(
+    alloc: Global,
+    proof: &mut [u8],
+    proof_len: &mut usize,
+    map: &Head,
+    map_entries: &[[u8; 64]],
+    map_forks: &[[u8; 48]],
+    first: &[u8; 32],
+    last: &[u8; 32],
+) -> i32
+    // Whoever reads it finds the map's root, and what the map has at each key there.
+    ensures accepted { (xs : List Entry) → KeepsSha256Map map_entries.now map_forks.now map.now xs
+        → result ≡ pos 0 → IsShownAt sha256_map (IsBetween first.now last.now) xs
+        (take proof_len.new proof.new) }
+    ensures done { (xs : List Entry) → KeepsSha256Map map_entries.now map_forks.now map.now xs
+        → HandsSome (IsTreeBetween sha256_map first.now last.now xs)
+        proof.old proof.new proof_len.old proof_len.new result }
+    ensures kept { result ≢ pos 0 → proof.new ≡ proof.old }
+    ensures uncounted { result ≢ pos 0 → result ≢ fault_code Room → proof_len.new ≡ proof_len.old }
+{
+    let made = prove_between::<KeptSha256>(alloc, map_entries, map_forks, map, first, last);
+    hand_proof(made, proof, proof_len)
 }
 
 /// Writes a map to other memory, and no entry or fork that does not belong to it.
@@ -257,6 +345,11 @@ pub extern "C" fn paxidore_kept_map_copy(
 ) -> i32
     ensures copied { (xs : List Entry) → KeepsSha256Map map_entries.now map_forks.now map.now xs
         → result ≡ pos 0 → KeepsSha256Map to_entries.new to_forks.new to_map.new xs }
+
+    // Of a map it is refused for want of room alone.
+    ensures done { (xs : List Entry) → KeepsSha256Map map_entries.now map_forks.now map.now xs
+        → length xs ≤ length to_entries.old → map.now.forks ≤ length to_forks.old
+        → result ≡ pos 0 }
     ensures codes { (result ≡ pos 0) ⊎ (result ≡ fault_code Room) ⊎ (result ≡ fault_code NoMap) }
     ensures kept { result ≢ pos 0 → to_map.new ≡ to_map.old }
 {
@@ -265,6 +358,70 @@ pub extern "C" fn paxidore_kept_map_copy(
             *to_map = head;
             0
         }
+        Err(fault) => code_of(fault),
+    }
+}
+
+// Writes a value, where there is one, and whether there is.
+fn put_value(found: Option<[u8; 32]>, value: &mut [u8; 32], is_there: &mut u8)
+    ensures { value_if is_there.new value.new ≡ found }
+{
+    match found {
+        Some(own) => {
+            *value = own;
+            *is_there = 1;
+        }
+        None => *is_there = 0,
+    }
+}
+
+/// Writes the least key that is not below `from` at which two maps in one memory differ, and what either has there: a value, where
+/// 1 is written beside it, or none, where that is 0. What both have at one number is passed over.
+///
+/// Answers: 0; 1 where they have the same from that key on; `E_DAMAGED`, where memory holds no map under one of the heads. The last two
+/// leave all as before.
+#[unsafe(no_mangle)]
+pub extern "C" fn paxidore_kept_map_differ(
+    next_key: &mut [u8; 32],
+    old_value: &mut [u8; 32],
+    has_old: &mut u8,
+    new_value: &mut [u8; 32],
+    has_new: &mut u8,
+    old_map: &Head,
+    map: &Head,
+    map_entries: &[[u8; 64]],
+    map_forks: &[[u8; 48]],
+    from: &[u8; 32],
+) -> i32
+    ensures found { (xs ys : List Entry)
+        → KeepsSha256Map map_entries.now map_forks.now old_map.now xs
+        → KeepsSha256Map map_entries.now map_forks.now map.now ys → result ≡ pos 0
+        → IsDifference from.now xs ys (record {
+          key = next_key.new;
+          older = value_if has_old.new old_value.new;
+          newer = value_if has_new.new new_value.new;
+        }) }
+    ensures none { (xs ys : List Entry)
+        → KeepsSha256Map map_entries.now map_forks.now old_map.now xs
+        → KeepsSha256Map map_entries.now map_forks.now map.now ys
+        → result ≢ pos 0 → (result ≡ pos 1) × HaveSameFrom from.now xs ys }
+    ensures kept_key { result ≢ pos 0 → next_key.new ≡ next_key.old }
+    ensures kept_old { result ≢ pos 0 → old_value.new ≡ old_value.old }
+    ensures kept_has_old { result ≢ pos 0 → has_old.new ≡ has_old.old }
+    ensures kept_new { result ≢ pos 0 → new_value.new ≡ new_value.old }
+    ensures kept_has_new { result ≢ pos 0 → has_new.new ≡ has_new.old }
+{
+    match differ(map_entries, map_forks, old_map, map, from) {
+        Ok(Some(found)) => {
+            let key = found.key;
+            let older = found.older;
+            let newer = found.newer;
+            *next_key = key;
+            put_value(older, old_value, has_old);
+            put_value(newer, new_value, has_new);
+            0
+        }
+        Ok(None) => 1,
         Err(fault) => code_of(fault),
     }
 }

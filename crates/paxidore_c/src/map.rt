@@ -2,18 +2,21 @@
 //!
 //! A keeper hands over the part of the tree that a call needs as the bytes of a tree that hides the rest (`MapTree::from_bytes`).
 
-ghost use Rattle.std.specs.Prelude.{◌≡◌, ◌≢◌, ◌++◌, List, true, drop, length, map, pos, IfOk, IfSome, Ok, Some, None};
+ghost use Rattle.std.specs.Prelude.{◌≡◌, ◌≢◌, ◌++◌, List, true, drop, length, map, pos, IfOk, IfSome, Ok, Err, Some, None, ◌⊎◌};
 ghost use Rattle.ark_base.specs.Outcome.{Answers, AnswersBy};
+ghost use Rattle.ark_base.specs.declared.error.Error.TheVariants.{OutOfMemory};
 ghost use Rattle.merkle_map.specs.Bytes.{itself, tree_of_bytes};
+ghost use Rattle.merkle_map.specs.Changes.{entry_of};
 ghost use Rattle.merkle_map.specs.KeyProof.{BindsBy};
 ghost use Rattle.merkle_map.specs.Map.{Entry, root_of_map};
+ghost use Rattle.merkle_map.specs.Order.{next_seen, pair_seen, HasNext};
 ghost use Rattle.merkle_map.specs.Parts.{value_seen};
 ghost use Rattle.merkle_map.specs.Sha256.{sha256_map};
 ghost use Rattle.merkle_map.specs.Transition.{change_seen, rows_found, LeadsTo};
 ghost use Rattle.merkle_map.specs.Tree.{shape_digest, Shows};
 ghost use Rattle.merkle_map.specs.Whole.{IsRootOf};
 ghost use Rattle.paxidore_calls.specs.Answer.{done_code, refusal_code, refusing, verdict_code, GivesCode, CallGivesBy, Hands};
-ghost use Rattle.paxidore_c.specs.Maps.{changed_code, changes_of as changes_by, key_proof_in, key_verdict, map_changed, map_proof, map_refused, map_root as root_in, refusing_map, tree_changed, IfMade, IsProvedBy, IsRootOfAll, IsRootOfStore};
+ghost use Rattle.paxidore_c.specs.Maps.{changed_code, changes_of as changes_by, key_proof_in, key_verdict, map_changed, map_proof, map_refused, map_root as root_in, refusing_map, tree_changed, GivesNext, IfMade, IsNextOf, IsProvedBy, IsRootOfAll, IsRootOfStore};
 ghost use Rattle.paxidore_calls.specs.declared.refused.Refused.TheVariants.{Room};
 
 use ark_base::error::Error;
@@ -201,6 +204,60 @@ pub extern "C" fn paxidore_map_prove(
         IfOk (tree_of_bytes tree.now) (IsProvedBy key.now bytes)) }
 {
     hand_over(proof_for(alloc, tree, key), proof, proof_len)
+}
+
+// The first entry from one key to another of the tree that bytes are: its key and its value. Errors: those of
+// `MapTree::from_bytes`; that the tree hides a part that may have it; `OutOfMemory`.
+fn next_of(
+    alloc: Global,
+    tree: &[u8],
+    first: &[u8; 32],
+    last: &[u8; 32],
+) -> Result<Option<([u8; 32], [u8; 32])>, Error>
+    ensures answer { (result ≡ Err OutOfMemory)
+        ⊎ IsNextOf tree.now first.now last.now (next_seen result) }
+    ensures maps { IfOk result (λ found. IfOk (tree_of_bytes tree.now)
+        (λ t. HasNext t first.now last.now (pair_seen found))) }
+{
+    let tree = MapTree::from_bytes(alloc, tree)?;
+    tree.next(first, last)
+}
+
+/// Writes the entry with the least key from `first` to `last`, both with them, of the map whose tree, as far as it is needed, bytes are.
+/// From a key above each that was found, these are all that the map has to `last`: so a tree that hides nothing there is the proof of
+/// that, where its root (`paxidore_map_root`) is the map's.
+///
+/// Answers: 0; 1 where there is none; else the first of `E_TRUNCATED`, `E_INVALID` for bytes that are no tree, `E_HIDDEN` where the tree
+/// hides a part that may have the entry; `E_MEMORY` in place of any. Each but 0 leaves `next_key` and `next_value` as before.
+#[unsafe(no_mangle)]
+pub extern "C" fn paxidore_map_next(
+    alloc: Global,
+    next_key: &mut [u8; 32],
+    next_value: &mut [u8; 32],
+    tree: &[u8],
+    first: &[u8; 32],
+    last: &[u8; 32],
+) -> i32
+    ensures answer { GivesNext tree.now first.now last.now result }
+
+    // Each map that the tree shows has this entry there first, or none.
+    ensures found { result ≡ pos 0 → IfOk (tree_of_bytes tree.now)
+        (λ t. HasNext t first.now last.now (Some (entry_of next_key.new next_value.new))) }
+    ensures none { result ≡ pos 1 → IfOk (tree_of_bytes tree.now)
+        (λ t. HasNext t first.now last.now None) }
+    ensures kept_key { result ≢ pos 0 → next_key.new ≡ next_key.old }
+    ensures kept_value { result ≢ pos 0 → next_value.new ≡ next_value.old }
+{
+    match next_of(alloc, tree, first, last) {
+        Ok(Some(found)) => {
+            let (key, value) = found;
+            *next_key = key;
+            *next_value = value;
+            0
+        }
+        Ok(None) => 1,
+        Err(error) => refused_of(error).code(),
+    }
 }
 
 // The changes: the first keys get the values, and the keys behind them are removed. The only error is `OutOfMemory`.

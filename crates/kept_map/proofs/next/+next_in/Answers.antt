@@ -3,7 +3,8 @@ use Rattle.merkle_map.specs.Map.{bit_of}
 use Rattle.merkle_map.specs.Tree.{way}
 use Rattle.merkle_map.proofs.Keys.{length-way}
 use Rattle.kept_map.specs.KeptMap.{LaidAt, right_at}
-use Rattle.kept_map.specs.Order.{IsFirstAt, IsKeyBelow, IsNextAt}
+use Rattle.merkle_map.specs.Order.{IsKeyBelow}
+use Rattle.kept_map.specs.Order.{IsFirstAt, IsNextAt}
 use Rattle.kept_map.specs.Parts.{part_number}
 use Rattle.kept_map.proofs.Climbing.{side-stands}
 use Rattle.kept_map.proofs.Lies.{lies-fork, lies-part, sides-stand}
@@ -21,19 +22,20 @@ returns-in-Nothing-clause-next t c =
     let is : c.args.number ≡ 0 = sym c.in_ok-part_of.ensures.number ∙ ap part_number c.in-Nothing.is in
     next-nothing c.args.entries.now c.args.forks.now c.args.number c.args.level c.args.from.now is
 
-pub returns-then-is_below-clause-next : goal.returns-then-is_below-clause-next
-returns-then-is_below-clause-next t c =
+pub returns-then-is_key_below-clause-next : goal.returns-then-is_key_below-clause-next
+returns-then-is_key_below-clause-next t c =
     let is : c.args.number ≡ 2 * c.in-Entry.place + 1 = sym c.in_ok-part_of.ensures.number ∙ ap part_number
     c.in-Entry.is in
     next-no_entry c.args.entries.now c.args.forks.now c.args.number c.args.level c.args.from.now c.in-Entry.place is
-    (subst (λ k. IsKeyBelow k c.args.from.now) c.key_at.ensures (c.is_below.ensures.below c.if-is_below.true))
+    (subst (λ k. IsKeyBelow k c.args.from.now) c.key_at.ensures (c.is_key_below.ensures.below c.if-is_key_below.true))
 
-pub returns-else-is_below-clause-next : goal.returns-else-is_below-clause-next
-returns-else-is_below-clause-next t c =
+pub returns-else-is_key_below-clause-next : goal.returns-else-is_key_below-clause-next
+returns-else-is_key_below-clause-next t c =
     let is : c.args.number ≡ 2 * c.in-Entry.place + 1 = sym c.in_ok-part_of.ensures.number ∙ ap part_number
     c.in-Entry.is in
     next-entry c.args.entries.now c.args.forks.now c.args.number c.args.level c.args.from.now c.in-Entry.place is
-    (subst (λ k. ¬ IsKeyBelow k c.args.from.now) c.key_at.ensures (c.is_below.ensures.above c.if-is_below.false))
+    (subst (λ k. ¬ IsKeyBelow k c.args.from.now) c.key_at.ensures (c.is_key_below.ensures.above
+    c.if-is_key_below.false))
 
 pub returns-then-level-ge-LEVELS-clause-found : goal.returns-then-level-ge-LEVELS-clause-found
 returns-then-level-ge-LEVELS-clause-found t c = λ h first tree lies stands.

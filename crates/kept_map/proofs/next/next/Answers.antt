@@ -2,7 +2,7 @@ use Rattle.std.proofs.Common.{◌≡◌, MatchOption, true, false, ap, sym, ◌�
 use Rattle.merkle_map.specs.Changes.{entry_of}
 use Rattle.merkle_map.specs.Whole.{entries_of}
 use Rattle.kept_map.specs.KeptMap.{entry_in}
-use Rattle.kept_map.specs.Order.{HasNoneFrom, IsNextEntry}
+use Rattle.merkle_map.specs.Order.{HasNoneFrom, IsNextEntry}
 use Rattle.kept_map.proofs.UnderHeads.{lies-under}
 use Rattle.kept_map.proofs.next.next.Goals as goal
 

@@ -1,5 +1,5 @@
 use Rattle.std.proofs.Common.{MatchOption, refl, subst}
-use Rattle.kept_map.specs.Order.{HasNoneFrom, IsNextEntry}
+use Rattle.merkle_map.specs.Order.{HasNoneFrom, IsNextEntry}
 use Rattle.merkle_map.specs.Changes.{entry_of}
 use Rattle.merkle_map.specs.Sha256.{sha256_map}
 use Rattle.paxidore_c.proofs.kept_maps.paxidore_kept_map_next.Goals as goal

@@ -1,31 +1,26 @@
-use Rattle.std.proofs.Common.{Ok, take, refl, subst, sym, ap₂, w32, ◌∙◌}
-use Rattle.std.proofs.Math.Seq.{take-append_seam}
+use Rattle.std.proofs.Common.{◌≡◌, subst, sym, w32, ◌∙◌}
 use Rattle.std.proofs.lemmas.Int.{to_z-of_z}
-use Rattle.paxidore_c.specs.KeptMaps.{IsShownBy}
-use Rattle.paxidore_c.proofs.KeptMapCalls.{kept-codes}
+use Rattle.kept_map.proofs.Nexts.{ok-on}
+use Rattle.paxidore_c.specs.KeptMaps.{HandsSome, IsOwnProof, IsShownBy}
+use Rattle.paxidore_c.proofs.KeptMapCalls.{front-said, some-handed}
 use Rattle.paxidore_c.proofs.kept_maps.paxidore_kept_map_prove.Goals as goal
 
-pub returns-in-Ok-clause-accepted : goal.returns-in-Ok-clause-accepted
-returns-in-Ok-clause-accepted c = λ xs keeps zero.
-    let bytes = c.in-Ok.bytes.items in
-    let hands = c.hand_over.ensures (Ok bytes) refl in
-    let done = sym (to_z-of_z w32 c.hand_over.result (record { sfits = c.hand_over.type_inv })) ∙ zero in
-    let front = ap₂ (λ n buffer. take n buffer) (hands.counted done) (hands.written done) ∙ take-append_seam bytes _ in
-    subst (IsShownBy c.args.key.now xs) (sym front) (c.in-Ok.ensures xs keeps)
+pub returns-clause-accepted : goal.returns-clause-accepted
+returns-clause-accepted c = λ xs keeps zero.
+    let fits = to_z-of_z w32 c.hand_proof.result (record { sfits = c.hand_proof.type_inv }) in
+    front-said (λ bytes. bytes.items) (IsShownBy c.args.key.now xs)
+    c.proof_bytes_of-made.result c.args.proof.now c.hand_proof.new.proof c.args.proof_len.now c.hand_proof.new.proof_len
+    c.hand_proof.result (ok-on c.proof_bytes_of-made.result _ _ (λ bytes is. is xs keeps)
+    c.proof_bytes_of-made.ensures.shown)
+    c.hand_proof.ensures.handed c.hand_proof.ensures.fault (sym fits ∙ zero)
 
-pub returns-in-Ok-clause-codes : goal.returns-in-Ok-clause-codes
-returns-in-Ok-clause-codes c =
-    let hands = c.hand_over.ensures (Ok c.in-Ok.bytes.items) refl in
-    let fits = to_z-of_z w32 c.hand_over.result (record { sfits = c.hand_over.type_inv }) in
-    rw fits (kept-codes c.in-Ok.bytes.items _ c.hand_over.result hands.right_code)
-
-pub returns-in-Ok-clause-kept : goal.returns-in-Ok-clause-kept
-returns-in-Ok-clause-kept c = λ other.
-    let fits = to_z-of_z w32 c.hand_over.result (record { sfits = c.hand_over.type_inv }) in
-    (c.hand_over.ensures (Ok c.in-Ok.bytes.items) refl).kept (λ zero. other (fits ∙ zero))
-
-pub returns-in-Ok-clause-uncounted : goal.returns-in-Ok-clause-uncounted
-returns-in-Ok-clause-uncounted c = λ other more.
-    let fits = to_z-of_z w32 c.hand_over.result (record { sfits = c.hand_over.type_inv }) in
-    (c.hand_over.ensures (Ok c.in-Ok.bytes.items) refl).uncounted (λ zero. other (fits ∙ zero))
-    (λ room. more (fits ∙ room))
+pub returns-clause-done : goal.returns-clause-done
+returns-clause-done c = λ xs keeps.
+    let fits = to_z-of_z w32 c.hand_proof.result (record { sfits = c.hand_proof.type_inv }) in
+    subst (HandsSome (IsOwnProof c.args.key.now xs) c.args.proof.now c.hand_proof.new.proof c.args.proof_len.now
+    c.hand_proof.new.proof_len) (sym fits)
+    (some-handed (λ bytes. bytes.items) (IsOwnProof c.args.key.now xs)
+    c.proof_bytes_of-made.result c.args.proof.now c.hand_proof.new.proof c.args.proof_len.now c.hand_proof.new.proof_len
+    c.hand_proof.result (ok-on c.proof_bytes_of-made.result _ _ (λ bytes is. is xs keeps)
+    c.proof_bytes_of-made.ensures.own)
+    c.hand_proof.ensures.handed c.hand_proof.ensures.fault (c.proof_bytes_of-made.ensures.found xs keeps))

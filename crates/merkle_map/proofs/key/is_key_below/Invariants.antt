@@ -1,6 +1,6 @@
 use Rattle.std.proofs.Common.{◌≡◌}
 use Rattle.merkle_map.specs.Tree.{way}
-use Rattle.kept_map.proofs.next.is_below.Given as goal
+use Rattle.merkle_map.proofs.key.is_key_below.Given as goal
 
 abbrev pub invariant-bits : goal.invariant-bits
 invariant-bits l = way l.level l.a ≡ way l.level l.b

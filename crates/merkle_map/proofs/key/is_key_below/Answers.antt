@@ -1,8 +1,8 @@
 use Rattle.std.proofs.Common.{◌≡◌, ◌<◌, Bool, not, true, false, arith, refl, sym, ◌∙◌}
 use mathlib.Core.Bool.{beq}
 use Rattle.merkle_map.specs.Map.{bit_of}
-use Rattle.kept_map.proofs.Ordered.{bits-alike, not_both}
-use Rattle.kept_map.proofs.next.is_below.Goals as goal
+use Rattle.merkle_map.proofs.Ordered.{bits-alike, not_both}
+use Rattle.merkle_map.proofs.key.is_key_below.Goals as goal
 
 differs : (x y : Bool) → not (beq x y) ≡ true → y ≡ false → x ≡ true
 differs true y is low = refl

@@ -1,0 +1,29 @@
+use Rattle.std.proofs.Common.{◌≡◌, subst, sym, w32, ◌∙◌}
+use Rattle.std.proofs.lemmas.Int.{to_z-of_z}
+use Rattle.merkle_map.specs.Pruned.{IsAmong}
+use Rattle.merkle_map.specs.Sha256.{sha256_map}
+use Rattle.kept_map.specs.Many.{IsShownAt, IsTreeFor}
+use Rattle.kept_map.proofs.Nexts.{ok-on}
+use Rattle.paxidore_c.specs.KeptMaps.{HandsSome}
+use Rattle.paxidore_c.proofs.KeptMapCalls.{front-said, some-handed}
+use Rattle.paxidore_c.proofs.kept_maps.paxidore_kept_map_prove_many.Goals as goal
+
+pub returns-clause-accepted : goal.returns-clause-accepted
+returns-clause-accepted c = λ xs keeps zero.
+    let fits = to_z-of_z w32 c.hand_proof.result (record { sfits = c.hand_proof.type_inv }) in
+    front-said (λ bytes. bytes.items) (IsShownAt sha256_map (λ key. IsAmong key c.args.keys.now) xs)
+    c.prove_many-made.result c.args.proof.now c.hand_proof.new.proof c.args.proof_len.now c.hand_proof.new.proof_len
+    c.hand_proof.result (ok-on c.prove_many-made.result _ _ (λ bytes is. is xs keeps)
+    c.prove_many-made.ensures.accepted)
+    c.hand_proof.ensures.handed c.hand_proof.ensures.fault (sym fits ∙ zero)
+
+pub returns-clause-done : goal.returns-clause-done
+returns-clause-done c = λ xs keeps rising.
+    let fits = to_z-of_z w32 c.hand_proof.result (record { sfits = c.hand_proof.type_inv }) in
+    subst (HandsSome (IsTreeFor sha256_map c.args.keys.now xs) c.args.proof.now c.hand_proof.new.proof
+    c.args.proof_len.now
+    c.hand_proof.new.proof_len) (sym fits)
+    (some-handed (λ bytes. bytes.items) (IsTreeFor sha256_map c.args.keys.now xs)
+    c.prove_many-made.result c.args.proof.now c.hand_proof.new.proof c.args.proof_len.now c.hand_proof.new.proof_len
+    c.hand_proof.result (ok-on c.prove_many-made.result _ _ (λ bytes is. is xs keeps) c.prove_many-made.ensures.answer)
+    c.hand_proof.ensures.handed c.hand_proof.ensures.fault (c.prove_many-made.ensures.found xs keeps rising))
