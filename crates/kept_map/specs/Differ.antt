@@ -33,10 +33,11 @@ pub record IsDifference (from : Key) (xs ys : List Entry) (difference : Differen
 abbrev pub IsReached : Bool → Key → Key → Type 0
 IsReached is_on from key = is_on ≡ true → ¬ IsKeyBelow key from
 
--- Two maps have the same at each key that is reached, or differ first at the key of an entry.
+-- Two maps have the same at each key that is reached.
 abbrev pub HaveSameReached : Bool → Key → List Entry → List Entry → Type 0
 HaveSameReached is_on from xs ys = (key : Key) → IsReached is_on from key → value_at key xs ≡ value_at key ys
 
+-- Of the keys that are reached, two maps differ at this one, and have the same at each that is below it.
 pub record IsFirstReached (is_on : Bool) (from : Key) (xs ys : List Entry) (key : Key) : Type 0 where
   pub differ : value_at key xs ≢ value_at key ys
   pub reached : IsReached is_on from key
