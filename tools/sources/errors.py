@@ -28,14 +28,16 @@ WORDS = {
     "AppendsElements": "the error is that of the elements or OutOfMemory (ark_absorb, Appending)",
     "HashesAhead": "the only error is OutOfMemory (ark_crh, Ahead)",
     "AnswersOver": "Answers of the items that were taken (ark_paths, Leaves)",
+    "IsNextKnown": "the only error is that the tree hides a part, where it does (merkle_map, Order)",
     "Stores": "the only error is OutOfMemory (merkle_map, Whole)",
     "IsOkUnless": "the only error is the one that it names (the kit's Prelude)",
 }
 # Views of a result that keep its error: an equation of such a view says which one it is.
-VIEWS = ("seen_by", "found_seen", "outcome_with", "string_outcome", "result_map_both")
+VIEWS = ("seen_by", "found_seen", "next_seen", "outcome_with", "string_outcome", "result_map_both")
 # The words that say which code a call for C returns.
 CODES = {
     "GivesCode": "this code, or that of a lack of memory (paxidore_calls, Answer)",
+    "GivesNext": "the code of the first entry's outcome, or of a lack of memory (paxidore_c, Maps)",
     "Hands": "the code of the outcome, of too little room, or of a lack of memory (paxidore_calls, Answer)",
     "Replaces": "the code of the outcome, or of a lack of memory (paxidore_calls, Transcript)",
     "TellsVerdict": "0 or 1 as the outcome has it, else that of its error (paxidore_page, Code)",

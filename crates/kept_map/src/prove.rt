@@ -147,6 +147,7 @@ fn climb_down<H: KeptHash>(
         (first : ℕ) (tree : Shape) → LaidAt h (take first entries.now) forks.now count number tree
         → StandsAt (way (length siblings.old.items) key.now) tree → fork_count tree ≤ budget.old
         → IfErr result (λ fault. fault ≡ OutOfMemory) }
+    ensures fault { IfErr result (λ fault. fault ≢ Order) }
 {
     match part_of(number, entries.len(), count)? {
         Part::Nothing => Ok(End::Nothing),
@@ -195,6 +196,7 @@ pub fn prove<H: KeptHash>(
     ensures found { let h = kept_hashes H.leaf_hash H.node_hash H.nothing_hash in
         (xs : List EntryOf) → KeepsMap h entries.now forks.now head.now xs
         → IfErr result (λ fault. fault ≡ OutOfMemory) }
+    ensures fault { IfErr result (λ fault. fault ≢ Order) }
 {
     if head.forks > forks.len() {
         return Err(ProveFault::NoMap);

@@ -216,6 +216,7 @@ fn proof_bytes_of(
         → IsShownBy key.now xs bytes.items) }
     ensures found { (xs : List Entry) → KeepsSha256Map map_entries.now map_forks.now map.now xs
         → IfErr result (λ fault. fault ≡ OutOfMemory) }
+    ensures fault { IfErr result (λ fault. fault ≢ Order) }
 {
     match prove::<KeptSha256>(alloc, map_entries, map_forks, map, key) {
         Ok(proof) => match proof.to_bytes(alloc, &Sha256Map::new()) {
@@ -231,6 +232,10 @@ fn hand_proof(made: Result<Vec<u8>, ProveFault>, proof: &mut [u8], proof_len: &m
     ensures handed { IfOk made (λ bytes. Hands (Ok bytes.items) proof.old proof.new proof_len.old
         proof_len.new result) }
     ensures fault { IfErr made (λ fault. result ≡ proof_fault_code fault) }
+    ensures codes { (result ≡ pos 0) ⊎ (result ≡ fault_code Room) ⊎ (result ≡ fault_code NoMap)
+        ⊎ (result ≡ refusal_code Memory) ⊎ (result ≡ refusal_code Index) }
+    ensures unordered { IfErr made (λ fault. fault ≢ Order) → (result ≡ pos 0) ⊎ (result ≡ fault_code Room)
+        ⊎ (result ≡ fault_code NoMap) ⊎ (result ≡ refusal_code Memory) }
     ensures kept { result ≢ pos 0 → proof.new ≡ proof.old }
     ensures uncounted { result ≢ pos 0 → result ≢ fault_code Room → proof_len.new ≡ proof_len.old }
 {
@@ -263,6 +268,8 @@ pub extern "C" fn paxidore_kept_map_prove(
     // Of a map it is refused for want of room for the proof that its tree has, or of memory, alone.
     ensures done { (xs : List Entry) → KeepsSha256Map map_entries.now map_forks.now map.now xs
         → HandsSome (IsOwnProof key.now xs) proof.old proof.new proof_len.old proof_len.new result }
+    ensures codes { (result ≡ pos 0) ⊎ (result ≡ fault_code Room) ⊎ (result ≡ fault_code NoMap)
+        ⊎ (result ≡ refusal_code Memory) }
     ensures kept { result ≢ pos 0 → proof.new ≡ proof.old }
     ensures uncounted { result ≢ pos 0 → result ≢ fault_code Room → proof_len.new ≡ proof_len.old }
 {
@@ -293,6 +300,8 @@ pub extern "C" fn paxidore_kept_map_prove_many(
         → IsRising keys.now → HandsSome (IsTreeFor sha256_map keys.now xs)
         proof.old proof.new proof_len.old proof_len.new result }
     ensures order { ¬ IsRising keys.now → result ≡ refusal_code Index }
+    ensures codes { (result ≡ pos 0) ⊎ (result ≡ fault_code Room) ⊎ (result ≡ fault_code NoMap)
+        ⊎ (result ≡ refusal_code Memory) ⊎ (result ≡ refusal_code Index) }
     ensures kept { result ≢ pos 0 → proof.new ≡ proof.old }
     ensures uncounted { result ≢ pos 0 → result ≢ fault_code Room → proof_len.new ≡ proof_len.old }
 {
@@ -323,6 +332,8 @@ pub extern "C" fn paxidore_kept_map_prove_range(
     ensures done { (xs : List Entry) → KeepsSha256Map map_entries.now map_forks.now map.now xs
         → HandsSome (IsTreeBetween sha256_map first.now last.now xs)
         proof.old proof.new proof_len.old proof_len.new result }
+    ensures codes { (result ≡ pos 0) ⊎ (result ≡ fault_code Room) ⊎ (result ≡ fault_code NoMap)
+        ⊎ (result ≡ refusal_code Memory) }
     ensures kept { result ≢ pos 0 → proof.new ≡ proof.old }
     ensures uncounted { result ≢ pos 0 → result ≢ fault_code Room → proof_len.new ≡ proof_len.old }
 {
