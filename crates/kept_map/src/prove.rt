@@ -1,11 +1,11 @@
 //! Proofs of what a map in memory has at a key.
 
-ghost use Rattle.std.specs.Prelude.{◌≡◌, ◌<◌, ◌≤◌, ◌+◌, take, length, Bool, IfErr, IfOk, IsOk, List, ℕ, Ok};
+ghost use Rattle.std.specs.Prelude.{◌≡◌, ◌≢◌, ◌<◌, ◌≤◌, ◌+◌, take, length, Bool, IfErr, IfOk, IsOk, List, ℕ, Ok};
 ghost use Rattle.ark_base.specs.Digits.{itself};
 ghost use Rattle.kept_map.specs.Digests.{IsDigestAt, IsProofAt};
 ghost use Rattle.kept_map.specs.KeptMap.{fork_count, kept_hashes, entry_in, KeepsMap, LaidAt};
 ghost use Rattle.kept_map.specs.declared.head.MapFault.TheVariants.{NoMap};
-ghost use Rattle.kept_map.specs.declared.prove.ProveFault.TheVariants.{OutOfMemory, NoMap as NoMapHere};
+ghost use Rattle.kept_map.specs.declared.prove.ProveFault.TheVariants.{OutOfMemory, NoMap as NoMapHere, Order};
 ghost use Rattle.merkle_map.specs.Kept.{IsShownIn, IsTreeOf};
 ghost use Rattle.merkle_map.specs.KeyProof.{end_at, end_seen, proof_at, proof_seen, seen_with};
 ghost use Rattle.merkle_map.specs.Map.{Entry as EntryOf};

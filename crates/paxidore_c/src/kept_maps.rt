@@ -7,9 +7,9 @@ ghost use Rattle.kept_map.specs.Changed.{HasForkRoom, HasPutRoom, IsOlder, Keeps
 ghost use Rattle.kept_map.specs.Differ.{HaveSameFrom, IsDifference};
 ghost use Rattle.kept_map.specs.Many.{IsRising, IsShownAt, IsTreeFor};
 ghost use Rattle.kept_map.specs.declared.head.MapFault.TheVariants.{NoMap, Room};
-ghost use Rattle.kept_map.specs.declared.prove.ProveFault.TheVariants.{OutOfMemory};
+ghost use Rattle.kept_map.specs.declared.prove.ProveFault.TheVariants.{OutOfMemory, Order};
 ghost use Rattle.paxidore_calls.specs.Answer.{refusal_code, Hands};
-ghost use Rattle.paxidore_calls.specs.declared.refused.Refused.TheVariants.{Index};
+ghost use Rattle.paxidore_calls.specs.declared.refused.Refused.TheVariants.{Index, Memory};
 ghost use Rattle.merkle_map.specs.Changes.{entry_of};
 ghost use Rattle.merkle_map.specs.Map.{put as with_value, Entry, root_of_map, value_at, without};
 ghost use Rattle.merkle_map.specs.Order.{HasNoneFrom, IsNextEntry};
