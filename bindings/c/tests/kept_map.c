@@ -276,7 +276,7 @@ static void hostile(size_t turns) {
     if (some_entries == NULL || some_forks == NULL)
         exit(2);
     for (size_t turn = 0; turn < turns; turn++) {
-        uint8_t key[32], value[32], root[32];
+        uint8_t key[32], value[32] = {0}, root[32];
         paxidore_kept_map own = {below(40), below(9), below(41)}, same;
         size_t forks_there = own.forks;
         for (size_t i = 0; i < 8 * 64; i++)
@@ -306,8 +306,8 @@ static void hostile(size_t turns) {
         shown += paxidore_kept_map_prove_many(proof, sizeof proof, &proof_len, &own, *some_entries, 8, *some_forks, FEW, key, 1) == PAXIDORE_OK;
         shown += paxidore_kept_map_prove_range(proof, sizeof proof, &proof_len, &own, *some_entries, 8, *some_forks, FEW, key, value) == PAXIDORE_OK;
         paxidore_kept_map other = {below(40), below(9), below(41)};
-        uint8_t has_old, has_new;
-        shown += paxidore_kept_map_differ(root, value, &has_old, value, &has_new, &own, &other, *some_entries, 8, *some_forks, FEW, key) == PAXIDORE_OK;
+        uint8_t other_value[32], has_old, has_new;
+        shown += paxidore_kept_map_differ(root, value, &has_old, other_value, &has_new, &own, &other, *some_entries, 8, *some_forks, FEW, key) == PAXIDORE_OK;
         shown += paxidore_kept_map_copy(&to_map, *to_entries, KEYS, *to_forks, 64, &own, *some_entries, 8, *some_forks, FEW) == PAXIDORE_OK;
         told += paxidore_kept_map_check(root, &own, *some_entries, 8, *some_forks, FEW) == PAXIDORE_OK;
         CHECK(memcmp(&own, &same, sizeof own) == 0);
