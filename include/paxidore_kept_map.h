@@ -66,9 +66,9 @@ PAXIDORE_ANSWERS PAXIDORE_NOT_NULL((3, 4)) int32_t paxidore_kept_map_prove(uint8
     size_t *proof_len, const paxidore_kept_map *map, const uint8_t *map_entries, size_t map_entries_room,
     const uint8_t *map_forks, size_t map_forks_room, const uint8_t key[32]);
 
-/* Writes the bytes of a tree with the map's root that shows what the map has at some keys, `keys_count` of 32 bytes, one
- * behind the other: paxidore_map_root and paxidore_map_prove take it, and paxidore_map_next. E_INDEX where a key is below
- * the one before it; E_DAMAGED, E_ROOM, E_MEMORY. */
+/* Writes the bytes of a tree with the map's root that shows what the map has at some keys, `keys_count` of 32 bytes,
+ * one behind the other: paxidore_map_root and paxidore_map_prove take it, and paxidore_map_next. E_INDEX where a key
+ * is below the one before it; E_DAMAGED, E_ROOM, E_MEMORY. */
 PAXIDORE_ANSWERS PAXIDORE_NOT_NULL((3, 4)) int32_t paxidore_kept_map_prove_many(uint8_t *proof, size_t proof_room,
     size_t *proof_len, const paxidore_kept_map *map, const uint8_t *map_entries, size_t map_entries_room,
     const uint8_t *map_forks, size_t map_forks_room, const uint8_t *keys, size_t keys_count);
@@ -79,17 +79,17 @@ PAXIDORE_ANSWERS PAXIDORE_NOT_NULL((3, 4)) int32_t paxidore_kept_map_prove_range
     size_t *proof_len, const paxidore_kept_map *map, const uint8_t *map_entries, size_t map_entries_room,
     const uint8_t *map_forks, size_t map_forks_room, const uint8_t first[32], const uint8_t last[32]);
 
-/* Writes the entry with the least key from `first` to `last`, both with them, of the maps that a tree shows. Called again
- * for the key that follows, up to NOT_SHOWN, it finds all that a map has there, where paxidore_map_root writes its root:
- * in every map with this root, or two different nodes with one SHA-256 are at hand. NOT_SHOWN where there is none;
- * E_TRUNCATED, E_INVALID, E_HIDDEN where the tree hides a part that may have it, E_MEMORY. */
+/* Writes the entry with the least key from `first` to `last`, both with them, of the maps that a tree shows. Called
+ * again for the key that follows, up to NOT_SHOWN, it finds all that a map has there, where paxidore_map_root writes
+ * its root: in every map with this root, or two different nodes with one SHA-256 are at hand. NOT_SHOWN where there
+ * is none; E_TRUNCATED, E_INVALID, E_HIDDEN where the tree hides a part that may have it, E_MEMORY. */
 PAXIDORE_ANSWERS PAXIDORE_NOT_NULL((1, 2)) int32_t paxidore_map_next(uint8_t next_key[32], uint8_t next_value[32],
     const uint8_t *tree, size_t tree_len, const uint8_t first[32], const uint8_t last[32]);
 
 /* Writes the least key that is not below `from` at which two maps in one memory differ, and what either has there: a
- * value, where 1 is written to has_old or has_new, or nothing, where 0 is. A call for the key that follows goes on. What
- * both have in common is passed over, so a call costs what the difference asks for. NOT_SHOWN where they have the same;
- * E_DAMAGED. */
+ * value, where 1 is written to has_old or has_new, or nothing, where 0 is. A call for the key that follows goes on.
+ * What both have in common is passed over, so a call costs what the difference asks for. NOT_SHOWN where they have
+ * the same; E_DAMAGED. */
 PAXIDORE_ANSWERS PAXIDORE_NOT_NULL((1, 2, 3, 4, 5, 6, 7)) int32_t paxidore_kept_map_differ(uint8_t next_key[32],
     uint8_t old_value[32], uint8_t *has_old, uint8_t new_value[32], uint8_t *has_new,
     const paxidore_kept_map *old_map, const paxidore_kept_map *map, const uint8_t *map_entries,
