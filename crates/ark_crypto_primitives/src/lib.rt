@@ -262,5 +262,5 @@ pub mod map {
 pub mod trees {
     pub use crate::log_tree::log_tree;
     pub use ark_trees::{ArraySha256, Arrays, LogSha256, Sha256Arrays, Sha256Log, Sha256Strings};
-    pub use circom_logs::CircomTree;
+    pub use circom::CircomTree;
 }

@@ -1,11 +1,11 @@
 -- Baby Jubjub on the curve whose first coefficient is -1.
 use Rattle.std.proofs.Common.{◌≡◌, ℕ, ◌*◌, ◌%◌, ◌<◌, ap, sym, ◌∙◌, lit<}
 use Rattle.ark_groups.specs.Group.{times}
-use Rattle.edwards_numbers.specs.Edwards.{Coordinates, IsOnCurve, neutral, negative, sum, edwards}
-use Rattle.edwards_numbers.specs.Curves.{IsCommutativeGroupOn}
-use Rattle.edwards_numbers.specs.Laws.Completeness.{has_inverses}
-use Rattle.edwards_numbers.specs.Laws.CurveLaws.{same_coordinates}
-use Rattle.edwards_numbers.specs.Laws.Quotients.{HasInverses}
+use Rattle.edwards.specs.Edwards.{Coordinates, IsOnCurve, neutral, negative, sum, edwards}
+use Rattle.edwards.specs.Curves.{IsCommutativeGroupOn}
+use Rattle.edwards.specs.Laws.Completeness.{has_inverses}
+use Rattle.edwards.specs.Laws.CurveLaws.{same_coordinates}
+use Rattle.edwards.specs.Laws.Quotients.{HasInverses}
 use Rattle.baby_jubjub.specs.BabyJubjub.{p, d, order, factor, one_over_factor, curve, scaled, base8, generator}
 use Rattle.baby_jubjub.specs.BabyJubjub.{IsOnBabyJubjub}
 use Rattle.baby_jubjub.specs.Laws.Curve.{baby_jubjub_is_complete, baby_jubjub_factor}

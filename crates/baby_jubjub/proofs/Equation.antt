@@ -3,8 +3,8 @@ use Rattle.std.proofs.Common.{◌≡◌, ℕ, ◌+◌, ◌*◌, ◌%◌, ◌<◌
 use Rattle.number_facts.proofs.CongruenceLaws.{sums, products}
 use Rattle.ark_groups.specs.Group.{Group, IsCommutativeGroup, times}
 use Rattle.ark_groups.proofs.Multiples.{times-add, times-mul, times-mod, times-plus, times-identity, right_identity}
-use Rattle.edwards_numbers.specs.Edwards.{Coordinates, neutral, sum, edwards}
-use Rattle.edwards_numbers.specs.Laws.Points.{Point, points, points_laws, same_point, at-times}
+use Rattle.edwards.specs.Edwards.{Coordinates, neutral, sum, edwards}
+use Rattle.edwards.specs.Laws.Points.{Point, points, points_laws, same_point, at-times}
 use Rattle.ark_sponge.specs.Permutation.{Parameters}
 use Rattle.baby_jubjub.specs.BabyJubjub.{p, d, order, curve, base8, scaled, IsOnBabyJubjub}
 use Rattle.baby_jubjub.specs.Eddsa.{eddsa_challenge, IsEddsaSignature, IsSignedWith}
@@ -70,7 +70,7 @@ times_at : (n : ℕ) (q : Coordinates) (on : IsOnBabyJubjub q) → scaled (times
 times_at n q on = times_is n q ∙ sym (at-times p d baby_jubjub_is_complete n (there q on))
 
 module _ (s h : ℕ) (key r8 : Coordinates) (on_key : IsOnBabyJubjub key) (on_r8 : IsOnBabyJubjub r8) where
-  -- S Base8 - (8 h) A - R8
+  -- S Base8 - (8 h) A - R
   abbrev pub left_over : P
   left_over = G.plus (G.plus (times G s base) (times G h (times G 8 (G.opposite (there key on_key)))))
       (G.opposite (there r8 on_r8))

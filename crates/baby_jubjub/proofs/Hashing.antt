@@ -2,7 +2,7 @@
 use Rattle.std.proofs.Common.{◌≡◌, ℕ, ◌<◌, ◌≤◌, List, [], ◌∷◌, length, take, map, get_or, All, refl, ◌∙◌, ap, arith}
 use Rattle.ark_sponge.specs.Permutation.{Parameters, permutation}
 use Rattle.ark_sponge.specs.Table.{ShortParts, short_permutation}
-use Rattle.edwards_numbers.specs.Edwards.{Coordinates}
+use Rattle.edwards.specs.Edwards.{Coordinates}
 use Rattle.baby_jubjub.specs.BabyJubjub.{p}
 use Rattle.baby_jubjub.specs.Eddsa.{RunsPoseidon, eddsa_challenge, fifth}
 

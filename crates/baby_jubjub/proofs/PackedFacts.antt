@@ -9,8 +9,8 @@ use Rattle.std.proofs.lemmas.Bool.{cases_eq, cases_lt, ltb-true, lt-ltb, ltb_fro
 use Rattle.ark_base.specs.Reading.{IsBytes}
 use Rattle.ark_base.specs.Digits.{number_of_bytes, bytes_of_number}
 use Rattle.ark_base.specs.Laws.Digits.{number_of_bytes-bytes_of_number, bytes_of_number-number_of_bytes}
-use Rattle.edwards_numbers.specs.Edwards.{Coordinates}
-use Rattle.edwards_numbers.specs.Laws.CurveLaws.{same_coordinates}
+use Rattle.edwards.specs.Edwards.{Coordinates}
+use Rattle.edwards.specs.Laws.CurveLaws.{same_coordinates}
 use Rattle.baby_jubjub.specs.declared.point.Point.{Point}
 use Rattle.baby_jubjub.specs.declared.point.PointFault.{PointFault}
 use Rattle.baby_jubjub.specs.declared.point.PointFault.TheVariants.{NotBelowModulus, NotOnCurve, SignOfZero}

@@ -6,7 +6,7 @@ use Rattle.std.proofs.Math.Nat.{zero-mod, mul-mod_left}
 use Rattle.std.proofs.lemmas.Nat.{mul-mod_second}
 use Rattle.std.proofs.lemmas.Bool.{cases_eq}
 use Rattle.number_facts.proofs.CongruenceLaws.{sums, multiples, products}
-use Rattle.edwards_numbers.specs.Laws.Quotients.{cancelled, differs, product_some}
+use Rattle.edwards.specs.Laws.Quotients.{cancelled, differs, product_some}
 use Rattle.baby_jubjub.specs.BabyJubjub.{p, IsOnBabyJubjub}
 use Rattle.baby_jubjub.proofs.Carried.{inverses}
 use Rattle.baby_jubjub.proofs.Reduced.{low}

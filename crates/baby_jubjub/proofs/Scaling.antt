@@ -5,12 +5,12 @@ use Rattle.std.proofs.Math.Nat.{zero-mod, mul-mod_left}
 use Rattle.std.proofs.lemmas.Nat.{mul-mod, mul-mod_first, mul-mod_second, pow-mod}
 use Rattle.number_facts.proofs.CongruenceLaws.{sums, multiples}
 use Rattle.ark_groups.specs.Group.{times}
-use Rattle.edwards_numbers.specs.Edwards.{Coordinates, IsOnCurve, cross, inverse, over, sum, neutral, negative, edwards}
-use Rattle.edwards_numbers.specs.Curves.{IsComplete, IsCommutativeGroupOn}
-use Rattle.edwards_numbers.specs.Laws.Completeness.{has_inverses, complete}
-use Rattle.edwards_numbers.specs.Laws.CurveLaws.{same_coordinates, sum_closed, neutral_on_curve, negative_closed}
-use Rattle.edwards_numbers.specs.Laws.CurveLaws.{sum_comm, sum_neutral, sum_negative, sum_assoc}
-use Rattle.edwards_numbers.specs.Laws.Quotients.{differs}
+use Rattle.edwards.specs.Edwards.{Coordinates, IsOnCurve, cross, inverse, over, sum, neutral, negative, edwards}
+use Rattle.edwards.specs.Curves.{IsComplete, IsCommutativeGroupOn}
+use Rattle.edwards.specs.Laws.Completeness.{has_inverses, complete}
+use Rattle.edwards.specs.Laws.CurveLaws.{same_coordinates, sum_closed, neutral_on_curve, negative_closed}
+use Rattle.edwards.specs.Laws.CurveLaws.{sum_comm, sum_neutral, sum_negative, sum_assoc}
+use Rattle.edwards.specs.Laws.Quotients.{differs}
 use Rattle.baby_jubjub.specs.Twisted.{IsOnTwisted, twisted_cross, twisted_sum, twisted}
 use Rattle.baby_jubjub.specs.Scaled.{scaled_by, IsFactor}
 

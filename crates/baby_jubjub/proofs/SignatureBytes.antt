@@ -8,7 +8,7 @@ use Rattle.std.proofs.Math.Seq.{take-append_seam, drop-append_seam}
 use Rattle.ark_base.specs.Digits.{number_of_bytes, bytes_of_number}
 use Rattle.ark_base.specs.Laws.Digits.{length-bytes_of_number, number_of_bytes-bytes_of_number}
 use Rattle.ark_wide_fields.specs.Laws.Fp256.{wide_below}
-use Rattle.edwards_numbers.specs.Edwards.{Coordinates}
+use Rattle.edwards.specs.Edwards.{Coordinates}
 use Rattle.baby_jubjub.specs.declared.signature.Signature.{Signature}
 use Rattle.baby_jubjub.specs.BabyJubjub.{order}
 use Rattle.baby_jubjub.specs.Eddsa.{signature_bytes}

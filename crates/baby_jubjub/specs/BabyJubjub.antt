@@ -2,7 +2,7 @@
 -- coordinates of circomlib.
 use Rattle.std.specs.Prelude.{◌≡◌, ℕ}
 use Rattle.ark_groups.specs.Group.{Group, times}
-use Rattle.edwards_numbers.specs.Edwards.{Coordinates, neutral}
+use Rattle.edwards.specs.Edwards.{Coordinates, neutral}
 use Rattle.baby_jubjub.specs.Twisted.{IsOnTwisted, twisted}
 use Rattle.baby_jubjub.specs.Scaled.{scaled_by}
 

@@ -2,7 +2,7 @@
 use Rattle.std.specs.Prelude.{◌≡◌, ℕ, ◌+◌, ◌*◌, ◌/◌, ◌%◌, ◌^◌, ◌≤◌, nat_lt, List}
 use Rattle.std.specs.Int.{from_bool}
 use Rattle.ark_base.specs.Digits.{number_of_bytes, bytes_of_number}
-use Rattle.edwards_numbers.specs.Edwards.{Coordinates}
+use Rattle.edwards.specs.Edwards.{Coordinates}
 use Rattle.baby_jubjub.specs.declared.point.PointFault.{PointFault}
 use Rattle.baby_jubjub.specs.declared.point.PointFault.TheVariants.{NotBelowModulus, NotOnCurve, SignOfZero}
 use Rattle.baby_jubjub.specs.declared.point.PointFault.TheVariants.{OutsideSubgroup}

@@ -1,6 +1,6 @@
 -- Points of Baby Jubjub by elements of the field, and why coordinates are those of none.
 use Rattle.std.specs.Prelude.{◌<◌, ◌≤◌, ◌⊎◌}
-use Rattle.edwards_numbers.specs.Edwards.{Coordinates}
+use Rattle.edwards.specs.Edwards.{Coordinates}
 use Rattle.baby_jubjub.specs.declared.point.Point.{Point}
 use Rattle.baby_jubjub.specs.declared.point.PointFault.{PointFault}
 use Rattle.baby_jubjub.specs.declared.point.PointFault.TheVariants.{NotBelowModulus, NotOnCurve, SignOfZero}

@@ -1,6 +1,6 @@
 -- The same points on a curve whose first coefficient is -1: the first coordinate times a factor.
 use Rattle.std.specs.Prelude.{◌≡◌, ℕ, ◌+◌, ◌*◌, ◌%◌, ◌≤◌}
-use Rattle.edwards_numbers.specs.Edwards.{Coordinates}
+use Rattle.edwards.specs.Edwards.{Coordinates}
 
 -- (s x, y)
 abbrev pub scaled_by : ℕ → ℕ → Coordinates → Coordinates

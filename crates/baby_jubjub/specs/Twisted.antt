@@ -1,7 +1,7 @@
 -- Twisted Edwards curves a x^2 + y^2 = 1 + d x^2 y^2 over the numbers modulo a prime p.
 use Rattle.std.specs.Prelude.{◌≡◌, ℕ, ◌+◌, ◌-◌, ◌*◌, ◌%◌, ◌<◌}
 use Rattle.ark_groups.specs.Group.{Group}
-use Rattle.edwards_numbers.specs.Edwards.{Coordinates, over, neutral, negative}
+use Rattle.edwards.specs.Edwards.{Coordinates, over, neutral, negative}
 
 -- coordinates below p that satisfy the equation modulo p
 pub record IsOnTwisted (p a d : ℕ) (q : Coordinates) : Type 0 where

@@ -48,7 +48,7 @@ impl Model for EddsaPoseidon {
     ghost invariant = { λ e. length e.short.mds ≡ 6 };
 }
 
-// Whether S Base8 is R8 and 8 hm times the key.
+// Whether S Base8 is R and 8 hm times the key.
 fn holds(s: Words, hm: Words, key: Point, r8: Point) -> bool
     ensures { Decides result (times curve (number s) base8
         ≡ curve.plus (coordinates r8) (times curve (8 * number hm) (coordinates key))) }
@@ -76,7 +76,7 @@ impl EddsaPoseidon {
         Ok(EddsaPoseidon { short })
     }
 
-    // The hash of R8, of the key and of a message.
+    // The hash of R, of the key and of a message.
     fn challenge(&self, r8: Point, key: Point, message: Bn254Fr) -> Bn254Fr
         ensures { (c : Parameters) → RunsPoseidon c self.now
             → value result ≡ eddsa_challenge c (coordinates r8) (coordinates key) (value message) }
@@ -125,7 +125,8 @@ impl EddsaPoseidon {
     /// Returns the signature that circomlib's `signPoseidon` makes: its nonce comes of the private key and of the message.
     pub fn sign_private(&self, key: &PrivateKey, message: Bn254Fr) -> Signature
         ensures exact { (c : Parameters) → RunsPoseidon c self.now
-            → let bytes = private_bytes key.now in let nonce = private_nonce bytes (value message) in
+            → let bytes = private_bytes key.now in
+            let nonce = private_nonce bytes (value message) in
             IsSignedWith c nonce (private_secret bytes) (value message)
             (coordinates result.r8) (scalar_number result.s) }
         ensures valid { (c : Parameters) → RunsPoseidon c self.now

@@ -42,7 +42,7 @@ impl Point {
     ghost use Rattle.std.specs.Bool.{Decides};
     ghost use Rattle.ark_groups.specs.Group.{times};
     ghost use Rattle.ark_groups.specs.Words.{number};
-    ghost use Rattle.edwards_numbers.specs.Edwards.{Coordinates, neutral};
+    ghost use Rattle.edwards.specs.Edwards.{Coordinates, neutral};
     ghost use Rattle.edwards.specs.Extended.{Stands};
     ghost use Rattle.baby_jubjub.specs.declared.point.PointFault.TheVariants.{OutsideSubgroup};
     ghost use Rattle.baby_jubjub.specs.BabyJubjub.{curve, base8, scaled, IsInPrimeSubgroup};

@@ -18,10 +18,10 @@ pub enum SignatureFault {
     NotBelowOrder,
 }
 
-/// A signature: the point R8, and the number S below the order.
+/// A signature: the point R, and the number S below the order.
 #[derive(Clone, Copy, PartialEq, Eq, Debug)]
 pub struct Signature {
-    /// R8.
+    /// R.
     pub r8: Point,
     /// S.
     pub s: BabyJubjubFr,

@@ -6,7 +6,7 @@ use Rattle.std.proofs.Math.Arith.{mod-mul}
 use Rattle.std.proofs.lemmas.Bool.{eqb-true, eqb-false}
 use Rattle.ark_groups.specs.Group.{times}
 use Rattle.ark_wide_fields.specs.Choices.{ones, mask_for}
-use Rattle.edwards_numbers.specs.Edwards.{Coordinates, sum, neutral}
+use Rattle.edwards.specs.Edwards.{Coordinates, sum, neutral}
 use Rattle.edwards.specs.Extended.{Stands}
 use Rattle.edwards.proofs.Sums.{multiples_add}
 use Rattle.ed25519.specs.declared.base.Forms.{Forms}

@@ -5,9 +5,9 @@ use Rattle.number_facts.specs.Powers.{power_mod}
 use Rattle.number_facts.proofs.PowerLaws.{power_right}
 use Rattle.ark_groups.specs.Group.{Group, IsCommutativeGroup, times}
 use Rattle.ark_groups.proofs.Multiples.{right_identity, times-add, times-plus, times-mul}
-use Rattle.edwards_numbers.specs.Edwards.{Coordinates, cross, inverse, sum}
-use Rattle.edwards_numbers.specs.Laws.CurveLaws.{same_coordinates}
-use Rattle.edwards_numbers.specs.Laws.Points.{Point, points, points_laws, at-times}
+use Rattle.edwards.specs.Edwards.{Coordinates, cross, inverse, sum}
+use Rattle.edwards.specs.Laws.CurveLaws.{same_coordinates}
+use Rattle.edwards.specs.Laws.Points.{Point, points, points_laws, at-times}
 use Rattle.ed25519.specs.Edwards25519.{p, d, curve, base_point, IsOnEd25519}
 use Rattle.ed25519.specs.Laws.Curve.{ed25519_is_complete}
 use Rattle.ed25519.specs.Laws.Base.{base_on_curve}

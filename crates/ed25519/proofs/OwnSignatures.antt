@@ -8,8 +8,8 @@ use Rattle.ark_base.specs.Digits.{bytes_of_number}
 use Rattle.ark_groups.specs.Group.{times}
 use Rattle.ark_groups.proofs.Multiples.{times-add, times-mul, times-mod, times-identity, right_identity}
 use Rattle.number_facts.proofs.Units.{power_inverse}
-use Rattle.edwards_numbers.specs.Edwards.{sum}
-use Rattle.edwards_numbers.specs.Laws.Points.{same_point}
+use Rattle.edwards.specs.Edwards.{sum}
+use Rattle.edwards.specs.Laws.Points.{same_point}
 use Rattle.ed25519.specs.Edwards25519.{p, d, order, curve, base_point, IsOnEd25519}
 use Rattle.ed25519.specs.Laws.Curve.{ed25519_is_complete}
 use Rattle.ed25519.specs.Laws.OrderPrime.{factors_order, generates_order}

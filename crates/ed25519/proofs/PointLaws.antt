@@ -10,10 +10,10 @@ use Rattle.std.specs.Bool.{Decides}
 use Rattle.std.specs.Int.{from_bool}
 use Rattle.number_facts.proofs.CongruenceLaws.{sums, multiples}
 use Rattle.number_facts.proofs.Units.{no_zero_divisors}
-use Rattle.edwards_numbers.specs.Edwards.{Coordinates}
+use Rattle.edwards.specs.Edwards.{Coordinates}
 use Rattle.ed25519.specs.Edwards25519.{p, d, IsOnEd25519}
-use Rattle.edwards_numbers.specs.Laws.Quotients.{cancelled}
-use Rattle.edwards_numbers.specs.Laws.Completeness.{has_inverses}
+use Rattle.edwards.specs.Laws.Quotients.{cancelled}
+use Rattle.edwards.specs.Laws.Completeness.{has_inverses}
 use Rattle.ed25519.specs.Laws.Curve.{ed25519_is_complete}
 use Rattle.ed25519.specs.Laws.ModulusPrime.{factors_p, generates_p}
 

@@ -1,8 +1,8 @@
 -- Sums of multiples of two points.
 use Rattle.std.proofs.Common.{◌≡◌, ℕ, ap₂, subst}
 use Rattle.ark_groups.specs.Group.{Group, times}
-use Rattle.edwards_numbers.specs.Edwards.{Coordinates, sum}
-use Rattle.edwards_numbers.specs.Laws.Points.{Point, points, at-times}
+use Rattle.edwards.specs.Edwards.{Coordinates, sum}
+use Rattle.edwards.specs.Laws.Points.{Point, points, at-times}
 use Rattle.ed25519.specs.Edwards25519.{p, d, IsOnEd25519}
 use Rattle.ed25519.specs.Laws.Curve.{ed25519_is_complete}
 use Rattle.ed25519.specs.Combined.{combined}

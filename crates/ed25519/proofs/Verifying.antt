@@ -7,9 +7,9 @@ use Rattle.ark_base.specs.Digits.{number_of_bytes, bytes_of_number}
 use Rattle.ark_base.specs.Laws.Digits.{length-bytes_of_number, number_of_bytes-bytes_of_number}
 use Rattle.ark_groups.specs.Group.{Group, IsCommutativeGroup, times}
 use Rattle.ark_groups.proofs.Multiples.{times-plus, times-identity, right_identity}
-use Rattle.edwards_numbers.specs.Edwards.{Coordinates, sum, negative}
-use Rattle.edwards_numbers.specs.Laws.CurveLaws.{same_coordinates}
-use Rattle.edwards_numbers.specs.Laws.Points.{Point, points, points_laws, same_point, at-times}
+use Rattle.edwards.specs.Edwards.{Coordinates, sum, negative}
+use Rattle.edwards.specs.Laws.CurveLaws.{same_coordinates}
+use Rattle.edwards.specs.Laws.Points.{Point, points, points_laws, same_point, at-times}
 use Rattle.ed25519.specs.Edwards25519.{p, d, order, curve, base_point, IsOnEd25519}
 use Rattle.ed25519.specs.Laws.Curve.{ed25519_is_complete}
 use Rattle.ed25519.specs.Laws.Base.{base_on_curve}

@@ -1,7 +1,7 @@
 -- The multiples of the base point that signing adds up, by computation.
 use Rattle.std.specs.Prelude.{ℕ, zero, suc, ◌+◌, ◌-◌, ◌*◌, ◌%◌, ◌^◌, List, [], ◌∷◌}
-use Rattle.edwards_numbers.specs.Edwards.{Coordinates}
-use Rattle.edwards_numbers.specs.Laws.Ladder.{quick_sum}
+use Rattle.edwards.specs.Edwards.{Coordinates}
+use Rattle.edwards.specs.Laws.Ladder.{quick_sum}
 use Rattle.edwards.specs.Entries.{couples}
 use Rattle.ed25519.specs.Edwards25519.{p, d, base_point}
 use Rattle.ed25519.specs.Laws.Curve.{ed25519_is_complete}

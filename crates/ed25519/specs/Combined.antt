@@ -1,7 +1,7 @@
 -- Sums of multiples of two points.
 use Rattle.std.specs.Prelude.{ℕ}
 use Rattle.ark_groups.specs.Group.{times}
-use Rattle.edwards_numbers.specs.Edwards.{Coordinates}
+use Rattle.edwards.specs.Edwards.{Coordinates}
 use Rattle.edwards.specs.declared.extended.Extended.{Extended}
 use Rattle.ed25519.specs.declared.moduli.Ed25519FpModulus.{Ed25519FpModulus}
 use Rattle.ed25519.specs.contracts.moduli.Ed25519FpModulusWideModulus.TheImpl.{ghosts}

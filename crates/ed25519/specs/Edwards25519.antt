@@ -1,7 +1,7 @@
 -- edwards25519: the curve -x^2 + y^2 = 1 + d x^2 y^2 over the numbers modulo 2^255 - 19.
 use Rattle.std.specs.Prelude.{ℕ}
 use Rattle.ark_groups.specs.Group.{Group}
-use Rattle.edwards_numbers.specs.Edwards.{Coordinates, IsOnCurve, edwards}
+use Rattle.edwards.specs.Edwards.{Coordinates, IsOnCurve, edwards}
 
 -- 2^255 - 19
 abbrev pub p : ℕ

@@ -1,7 +1,7 @@
 -- Multiples of the base point by digits to base 16.
 use Rattle.std.specs.Prelude.{◌≡◌, ℕ, zero, suc, ◌+◌, ◌-◌, ◌*◌, ◌/◌, ◌%◌, ◌^◌}
 use Rattle.ark_groups.specs.Words.{number}
-use Rattle.edwards_numbers.specs.Edwards.{Coordinates}
+use Rattle.edwards.specs.Edwards.{Coordinates}
 use Rattle.ed25519.specs.declared.base.Forms.{Forms}
 use Rattle.ed25519.specs.Edwards25519.{d}
 use Rattle.ed25519.specs.BaseTable.{in_montgomery_form}

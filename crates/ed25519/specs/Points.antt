@@ -1,7 +1,7 @@
 -- What stands between the code and the points of edwards25519: coordinates of elements, and the exponents of square
 -- roots.
 use Rattle.std.specs.Prelude.{ℕ, ◌-◌, ◌^◌}
-use Rattle.edwards_numbers.specs.Edwards.{Coordinates}
+use Rattle.edwards.specs.Edwards.{Coordinates}
 use Rattle.ed25519.specs.Values.{Fp, value}
 
 -- the coordinates that two elements of the field are

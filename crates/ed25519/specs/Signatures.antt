@@ -3,7 +3,7 @@ use Rattle.std.specs.Prelude.{◌≡◌, ℕ, ◌+◌, ◌*◌, ◌/◌, ◌%◌
 use Rattle.sha2.specs.Sha512.{sha512}
 use Rattle.ark_base.specs.Digits.{number_of_bytes, bytes_of_number}
 use Rattle.ark_groups.specs.Group.{times}
-use Rattle.edwards_numbers.specs.Edwards.{Coordinates}
+use Rattle.edwards.specs.Edwards.{Coordinates}
 use Rattle.ed25519.specs.Edwards25519.{order, curve, base_point, IsOnEd25519}
 use Rattle.ed25519.specs.Spelling.{spelling}
 

@@ -1,7 +1,7 @@
 -- Points of small order: those whose multiple by the cofactor, 8, is the neutral point.
 use Rattle.std.specs.Prelude.{◌≡◌, ℕ, List}
 use Rattle.ark_groups.specs.Group.{times}
-use Rattle.edwards_numbers.specs.Edwards.{Coordinates, neutral}
+use Rattle.edwards.specs.Edwards.{Coordinates, neutral}
 use Rattle.ed25519.specs.Edwards25519.{curve, IsOnEd25519}
 use Rattle.ed25519.specs.Spelling.{spelling}
 

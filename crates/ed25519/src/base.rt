@@ -4,7 +4,7 @@ ghost use Rattle.std.specs.Prelude.{◌≡◌, ℕ, ◌+◌, ◌-◌, ◌*◌, �
 ghost use Rattle.ark_groups.specs.Group.{times};
 ghost use Rattle.ark_groups.specs.Words.{number};
 ghost use Rattle.ark_wide_fields.specs.Choices.{IsMask, ones};
-ghost use Rattle.edwards_numbers.specs.Edwards.{Coordinates, neutral};
+ghost use Rattle.edwards.specs.Edwards.{Coordinates, neutral};
 ghost use Rattle.edwards.specs.Entries.{no_entry, AreMasksOf};
 ghost use Rattle.edwards.specs.Extended.{Stands};
 ghost use Rattle.edwards.specs.Prepared.{IsPrepared};

@@ -2,7 +2,7 @@
 
 ghost use Rattle.std.specs.Prelude.{◌≡◌, ◌*◌, ◌%◌};
 ghost use Rattle.ark_groups.specs.Words.{number};
-ghost use Rattle.edwards_numbers.specs.Edwards.{Coordinates};
+ghost use Rattle.edwards.specs.Edwards.{Coordinates};
 ghost use Rattle.edwards.specs.Extended.{Stands};
 ghost use Rattle.ed25519.specs.Edwards25519.{p, d, IsOnEd25519};
 ghost use Rattle.ed25519.specs.Values.{value};

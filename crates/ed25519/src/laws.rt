@@ -1,7 +1,7 @@
 //! What is proved of signatures. Each function is one theorem: its contract states it, and its body does nothing.
 
 ghost use Rattle.std.specs.Prelude.{◌≡◌, ℕ, List, take};
-ghost use Rattle.edwards_numbers.specs.Edwards.{Coordinates};
+ghost use Rattle.edwards.specs.Edwards.{Coordinates};
 ghost use Rattle.ed25519.specs.Edwards25519.{IsOnEd25519};
 ghost use Rattle.ed25519.specs.Spelling.{spelling};
 ghost use Rattle.ed25519.specs.Signatures.{IsSignature, key_of, signature_of};

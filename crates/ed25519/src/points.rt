@@ -3,7 +3,7 @@
 ghost use Rattle.std.specs.Prelude.{◌≡◌, ◌≢◌, ℕ, ◌+◌, ◌*◌, ◌%◌, ◌^◌, ◌<◌, IsNone, IfSome, length};
 ghost use Rattle.std.specs.Int.{from_bool};
 ghost use Rattle.ark_groups.specs.Words.{number};
-ghost use Rattle.edwards_numbers.specs.Edwards.{Coordinates};
+ghost use Rattle.edwards.specs.Edwards.{Coordinates};
 ghost use Rattle.ed25519.specs.Edwards25519.{p, d, IsOnEd25519};
 ghost use Rattle.ed25519.specs.Spelling.{spelling};
 ghost use Rattle.ed25519.specs.Points.{coordinates_of};

@@ -4,7 +4,7 @@ ghost use Rattle.std.specs.Prelude.{◌≡◌};
 ghost use Rattle.std.specs.Bool.{Decides};
 ghost use Rattle.ark_groups.specs.Group.{times};
 ghost use Rattle.ark_groups.specs.Words.{number};
-ghost use Rattle.edwards_numbers.specs.Edwards.{negative};
+ghost use Rattle.edwards.specs.Edwards.{negative};
 ghost use Rattle.ed25519.specs.Edwards25519.{p, curve, base_point, IsOnEd25519};
 ghost use Rattle.ed25519.specs.Spelling.{spelling};
 ghost use Rattle.ed25519.specs.Points.{coordinates_of};

@@ -4,8 +4,8 @@ use Rattle.std.proofs.Common.{ap, ap₂, arith, inl, inr, subst}
 use Rattle.std.proofs.lemmas.Bool.{cases_lt, lt-ltb, le-ltb}
 use Rattle.ark_groups.specs.Group.{Group, IsCommutativeGroup, times}
 use Rattle.ark_groups.proofs.Multiples.{right_identity, times-add}
-use Rattle.edwards_numbers.specs.Curves.{IsComplete}
-use Rattle.edwards_numbers.specs.Laws.Points.{Point, points, points_laws}
+use Rattle.edwards.specs.Curves.{IsComplete}
+use Rattle.edwards.specs.Laws.Points.{Point, points, points_laws}
 use Rattle.edwards.specs.Cached.{signed_multiple}
 use Rattle.edwards.specs.Digits.{added, taken, weighed, IsBlankFrom}
 use Rattle.edwards.proofs.SignedDigits.{added-low, added-high, taken-low, taken-high, weighed_more}

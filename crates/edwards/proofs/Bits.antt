@@ -2,14 +2,14 @@
 use Rattle.std.proofs.Common.{◌≡◌, ℕ, ◌+◌, ◌*◌, ◌/◌, ◌%◌, sym, ◌∙◌, ap, subst, arith}
 use Rattle.ark_groups.specs.Group.{times}
 use Rattle.edwards.specs.declared.extended.Extended.{Extended}
-use Rattle.edwards_numbers.specs.Edwards.{Coordinates, IsOnCurve, sum, neutral, edwards}
+use Rattle.edwards.specs.Edwards.{Coordinates, IsOnCurve, sum, neutral, edwards}
 use Rattle.edwards.specs.Extended.{Stands}
-use Rattle.edwards_numbers.specs.Laws.CurveLaws.{sum_neutral}
-use Rattle.edwards_numbers.specs.Laws.Completeness.{has_inverses, complete}
+use Rattle.edwards.specs.Laws.CurveLaws.{sum_neutral}
+use Rattle.edwards.specs.Laws.Completeness.{has_inverses, complete}
 use Rattle.edwards.proofs.Sums.{Doubles, multiple_on_curve, more, twice}
 use Rattle.ark_groups.specs.Words.{number}
 use Rattle.ark_wide_fields.specs.declared.modulus.WideModulus.{Ghosts}
-use Rattle.edwards_numbers.specs.Curves.{IsComplete}
+use Rattle.edwards.specs.Curves.{IsComplete}
 
 module _ {M : Type 0} {g : Ghosts M} (d : ℕ) (c : IsComplete (number g.P) d) where
   -- a sum, and a power that is to be added as often as the rest says, make the multiple by n

@@ -4,10 +4,10 @@ use Rattle.std.proofs.Common.{mod-eq_of_lt, mul_comm}
 use Rattle.std.proofs.Math.Nat.{mod-mod, mod_self, add-mod-mod, mul-mod_right}
 use Rattle.std.proofs.lemmas.Nat.{mul-mod_first, mul-mod_second}
 use Rattle.number_facts.proofs.CongruenceLaws.{sums, multiples, products, without}
-use Rattle.edwards_numbers.specs.Edwards.{Coordinates, IsOnCurve, sum, negative}
-use Rattle.edwards_numbers.specs.Curves.{IsComplete}
-use Rattle.edwards_numbers.specs.Laws.Completeness.{has_inverses}
-use Rattle.edwards_numbers.specs.Laws.Quotients.{product_some, some_modulus}
+use Rattle.edwards.specs.Edwards.{Coordinates, IsOnCurve, sum, negative}
+use Rattle.edwards.specs.Curves.{IsComplete}
+use Rattle.edwards.specs.Laws.Completeness.{has_inverses}
+use Rattle.edwards.specs.Laws.Quotients.{product_some, some_modulus}
 use Rattle.edwards.specs.Cached.{AreCached}
 use Rattle.edwards.specs.Stands.{StandForApart}
 use Rattle.edwards.proofs.CrossedProducts.{reduced, crossed_is, straight_is}

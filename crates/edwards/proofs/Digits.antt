@@ -9,8 +9,8 @@ use Rattle.ark_groups.specs.Words.{number}
 use Rattle.ark_wide_fields.specs.Choices.{ones, mask_for}
 use Rattle.ark_wide_fields.specs.declared.modulus.WideModulus.{Ghosts}
 use Rattle.edwards.specs.declared.extended.Extended.{Extended}
-use Rattle.edwards_numbers.specs.Edwards.{Coordinates, IsOnCurve, sum, neutral, edwards}
-use Rattle.edwards_numbers.specs.Curves.{IsComplete}
+use Rattle.edwards.specs.Edwards.{Coordinates, IsOnCurve, sum, neutral, edwards}
+use Rattle.edwards.specs.Curves.{IsComplete}
 use Rattle.edwards.specs.Extended.{Stands, StandsAt, IsBlank, AreMultiples}
 use Rattle.edwards.proofs.Sums.{Quadruples, four_times}
 

@@ -3,7 +3,7 @@ use Rattle.std.proofs.Common.{◌≡◌, ℕ, ◌-◌, ◌*◌, ◌%◌, ◌<◌
 use Rattle.std.proofs.lemmas.Nat.{mul-mod_first, mul-mod_second}
 use Rattle.number_facts.specs.Primes.{IsPrime}
 use Rattle.number_facts.proofs.Units.{certified}
-use Rattle.edwards_numbers.specs.Curves.{IsComplete}
+use Rattle.edwards.specs.Curves.{IsComplete}
 
 pub divided : (p x s z i : ℕ) → s < p → x % p ≡ s * z % p → z * i % p ≡ 1 → x * i % p ≡ s
 divided p x s z i below of_x inverts =

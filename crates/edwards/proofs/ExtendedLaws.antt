@@ -3,11 +3,11 @@ use Rattle.std.proofs.Common.{◌≡◌, ℕ, ◌+◌, ◌-◌, ◌*◌, ◌%◌
 use Rattle.std.proofs.Common.{mod-lt, mod-eq_of_lt, mul_comm}
 use Rattle.std.proofs.lemmas.Nat.{mul-mod_first}
 use Rattle.number_facts.proofs.CongruenceLaws.{sums, multiples}
-use Rattle.edwards_numbers.specs.Edwards.{Coordinates, IsOnCurve, cross, sum}
-use Rattle.edwards_numbers.specs.Curves.{IsComplete}
-use Rattle.edwards_numbers.specs.Laws.Quotients.{HasInverses, some_modulus, product_some, less}
-use Rattle.edwards_numbers.specs.Laws.CurveLaws.{NoCrossIsOne, above_some, below_some, x_of, y_of}
-use Rattle.edwards_numbers.specs.Laws.Completeness.{has_inverses, complete}
+use Rattle.edwards.specs.Edwards.{Coordinates, IsOnCurve, cross, sum}
+use Rattle.edwards.specs.Curves.{IsComplete}
+use Rattle.edwards.specs.Laws.Quotients.{HasInverses, some_modulus, product_some, less}
+use Rattle.edwards.specs.Laws.CurveLaws.{NoCrossIsOne, above_some, below_some, x_of, y_of}
+use Rattle.edwards.specs.Laws.Completeness.{has_inverses, complete}
 use Rattle.edwards.specs.Stands.{StandFor}
 use Rattle.edwards.proofs.CrossedProducts.{reduced, taken_back}
 use Rattle.edwards.proofs.ExtendedFacts.{first_numerator, second_numerator, first_denominator, second_denominator}

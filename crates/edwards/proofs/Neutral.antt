@@ -1,10 +1,10 @@
 -- Which four numbers stand for the neutral point.
 use Rattle.std.proofs.Common.{◌≡◌, ℕ, ◌*◌, ◌%◌, ◌<◌, sym, ◌∙◌, ap, arith, mod-eq_of_lt}
-use Rattle.edwards_numbers.specs.Edwards.{Coordinates, IsOnCurve, neutral}
-use Rattle.edwards_numbers.specs.Curves.{IsComplete}
-use Rattle.edwards_numbers.specs.Laws.Completeness.{has_inverses}
-use Rattle.edwards_numbers.specs.Laws.CurveLaws.{same_coordinates}
-use Rattle.edwards_numbers.specs.Laws.Quotients.{HasInverses, cancelled, equal, some_modulus}
+use Rattle.edwards.specs.Edwards.{Coordinates, IsOnCurve, neutral}
+use Rattle.edwards.specs.Curves.{IsComplete}
+use Rattle.edwards.specs.Laws.Completeness.{has_inverses}
+use Rattle.edwards.specs.Laws.CurveLaws.{same_coordinates}
+use Rattle.edwards.specs.Laws.Quotients.{HasInverses, cancelled, equal, some_modulus}
 use Rattle.edwards.proofs.ExtendedLaws.{Four, FourStand}
 
 none : (z : ℕ) → 0 ≡ 0 * z

@@ -8,8 +8,8 @@ use Rattle.ark_groups.specs.Group.{Group, times}
 use Rattle.ark_groups.specs.Words.{number}
 use Rattle.ark_groups.proofs.Multiples.{right_identity, times_at}
 use Rattle.ark_wide_fields.specs.declared.modulus.WideModulus.{Ghosts}
-use Rattle.edwards_numbers.specs.Curves.{IsComplete}
-use Rattle.edwards_numbers.specs.Laws.Points.{Point, points, points_laws}
+use Rattle.edwards.specs.Curves.{IsComplete}
+use Rattle.edwards.specs.Laws.Points.{Point, points, points_laws}
 use Rattle.edwards.specs.declared.extended.cached.Cached.{Cached}
 use Rattle.edwards.specs.Cached.{AreOddMultiples, IsCached, signed_multiple}
 use Rattle.edwards.proofs.Balance.{multiple_low}

@@ -2,8 +2,8 @@
 use Rattle.std.proofs.Common.{ℕ, List}
 use Rattle.ark_groups.specs.Words.{number}
 use Rattle.ark_wide_fields.specs.declared.modulus.WideModulus.{Ghosts}
-use Rattle.edwards_numbers.specs.Curves.{IsComplete}
-use Rattle.edwards_numbers.specs.Laws.Points.{Point, points, points_laws}
+use Rattle.edwards.specs.Curves.{IsComplete}
+use Rattle.edwards.specs.Laws.Points.{Point, points, points_laws}
 use Rattle.edwards.specs.declared.extended.Extended.{Extended}
 use Rattle.edwards.specs.Extended.{StandsApart}
 use Rattle.edwards.proofs.Balance.{Reached}

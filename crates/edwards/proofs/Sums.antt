@@ -3,12 +3,12 @@ use Rattle.std.proofs.Common.{◌≡◌, ℕ, ◌+◌, sym, ◌∙◌, ap, ap₂
 use Rattle.ark_groups.specs.Group.{times}
 use Rattle.ark_groups.proofs.Multiples.{times-add}
 use Rattle.edwards.specs.declared.extended.Extended.{Extended}
-use Rattle.edwards_numbers.specs.Edwards.{Coordinates, IsOnCurve, sum, edwards}
+use Rattle.edwards.specs.Edwards.{Coordinates, IsOnCurve, sum, edwards}
 use Rattle.edwards.specs.Extended.{Stands}
-use Rattle.edwards_numbers.specs.Laws.Points.{Point, points, points_laws, at-times}
+use Rattle.edwards.specs.Laws.Points.{Point, points, points_laws, at-times}
 use Rattle.ark_groups.specs.Words.{number}
 use Rattle.ark_wide_fields.specs.declared.modulus.WideModulus.{Ghosts}
-use Rattle.edwards_numbers.specs.Curves.{IsComplete}
+use Rattle.edwards.specs.Curves.{IsComplete}
 
 module _ (p d : ℕ) (c : IsComplete p d) where
   pub multiple_on_curve : (n : ℕ) (a : Coordinates) → IsOnCurve p d a → IsOnCurve p d (times (edwards p d) n a)

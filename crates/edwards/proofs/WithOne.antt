@@ -1,6 +1,6 @@
 -- Points by four coordinates of which the third is 1.
 use Rattle.std.proofs.Common.{◌≡◌, ℕ, ◌*◌, ◌%◌, ◌≤◌, sym, ◌∙◌, ap, arith, mod-eq_of_lt}
-use Rattle.edwards_numbers.specs.Edwards.{neutral}
+use Rattle.edwards.specs.Edwards.{neutral}
 use Rattle.edwards.specs.Stands.{StandFor}
 use Rattle.edwards.proofs.CrossedProducts.{reduced}
 

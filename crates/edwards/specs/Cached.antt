@@ -4,9 +4,9 @@ use Rattle.ark_groups.specs.Group.{times}
 use Rattle.ark_groups.specs.Words.{number}
 use Rattle.ark_wide_fields.specs.declared.modulus.WideModulus.{Ghosts}
 use Rattle.edwards.specs.declared.extended.cached.Cached.{Cached}
-use Rattle.edwards_numbers.specs.Edwards.{Coordinates}
-use Rattle.edwards_numbers.specs.Curves.{IsComplete}
-use Rattle.edwards_numbers.specs.Laws.Points.{Point, points}
+use Rattle.edwards.specs.Edwards.{Coordinates}
+use Rattle.edwards.specs.Curves.{IsComplete}
+use Rattle.edwards.specs.Laws.Points.{Point, points}
 use Rattle.edwards.specs.Stands.{StandFor}
 use Rattle.edwards.specs.Values.{value}
 

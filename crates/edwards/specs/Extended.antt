@@ -5,7 +5,7 @@ use Rattle.ark_groups.specs.Words.{number}
 use Rattle.ark_wide_fields.specs.declared.modulus.WideModulus.{Ghosts}
 use Rattle.ark_wide_fields.specs.declared.fp256.Fp256.{Fp256}
 use Rattle.edwards.specs.declared.extended.Extended.{Extended}
-use Rattle.edwards_numbers.specs.Edwards.{Coordinates, edwards}
+use Rattle.edwards.specs.Edwards.{Coordinates, edwards}
 use Rattle.edwards.specs.Stands.{StandFor, StandForApart}
 use Rattle.edwards.specs.Values.{value}
 

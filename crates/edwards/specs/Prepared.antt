@@ -4,7 +4,7 @@ use Rattle.ark_groups.specs.Words.{number}
 use Rattle.ark_wide_fields.specs.declared.modulus.WideModulus.{Ghosts}
 use Rattle.ark_wide_fields.specs.declared.fp256.Fp256.{Fp256}
 use Rattle.edwards.specs.declared.prepared.Prepared.{Prepared}
-use Rattle.edwards_numbers.specs.Edwards.{Coordinates}
+use Rattle.edwards.specs.Edwards.{Coordinates}
 use Rattle.edwards.specs.Values.{value}
 
 -- three numbers are y - x, y + x and 2 d x y modulo p

@@ -1,6 +1,6 @@
 -- Four numbers that stand for a point, with no division.
 use Rattle.std.specs.Prelude.{◌≡◌, ℕ, ◌*◌, ◌%◌}
-use Rattle.edwards_numbers.specs.Edwards.{Coordinates}
+use Rattle.edwards.specs.Edwards.{Coordinates}
 
 -- numbers X, Y, Z and T stand for the point with x = X / Z, y = Y / Z and x y = T / Z
 pub record StandFor (p X Y Z T : ℕ) (a : Coordinates) : Type 0 where

@@ -1,9 +1,11 @@
-//! Points of twisted Edwards curves over a field of four words, by four coordinates: for each curve of `IsComplete`.
+//! Twisted Edwards curves: what holds of their points, and their points over a field of four words, by four coordinates, for
+//! each curve of `IsComplete`.
 #![tactic(auto)]
 
 mod entries;
 mod extended;
 mod field;
+mod laws;
 mod multiples;
 mod prepared;
 mod public;
@@ -15,6 +17,7 @@ pub use extended::{
     plus_products, scale, zero,
 };
 pub use field::crossed_products;
+pub use laws::{points_are_a_group, sums_are_complete};
 pub use multiples::multiple;
 pub use prepared::{Prepared, plus_prepared};
 pub use public::{multiple_public, sum_of_multiples_public};

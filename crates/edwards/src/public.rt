@@ -3,9 +3,9 @@
 ghost use Rattle.std.specs.Prelude.{◌≡◌, ℕ, ◌+◌, ◌*◌, ◌%◌, ◌<◌, ◌≤◌};
 ghost use Rattle.ark_groups.specs.Group.{times};
 ghost use Rattle.ark_groups.specs.Words.{number};
-ghost use Rattle.edwards_numbers.specs.Edwards.{Coordinates, IsOnCurve, edwards, sum};
-ghost use Rattle.edwards_numbers.specs.Curves.{IsComplete};
-ghost use Rattle.edwards_numbers.specs.Laws.Points.{Point, points};
+ghost use Rattle.edwards.specs.Edwards.{Coordinates, IsOnCurve, edwards, sum};
+ghost use Rattle.edwards.specs.Curves.{IsComplete};
+ghost use Rattle.edwards.specs.Laws.Points.{Point, points};
 ghost use Rattle.edwards.specs.Cached.{AreOddMultiples, IsCached, signed_multiple};
 ghost use Rattle.edwards.specs.Digits.{AreDigits, IsDigit, IsBlankFrom, added, taken, weighed};
 ghost use Rattle.edwards.specs.Extended.{Stands, StandsApart};

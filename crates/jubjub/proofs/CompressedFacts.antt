@@ -16,10 +16,10 @@ use Rattle.jubjub.specs.Edwards.{Coordinates}
 use Rattle.jubjub.specs.Jubjub.{p, d, IsOnJubjub, IsInSubgroup}
 use Rattle.jubjub.specs.Elements.{coordinates}
 use Rattle.jubjub.specs.Compressed.{compressed, y_in, parity_in, IsAt, IsFaultAt}
-use Rattle.edwards_numbers.specs.Laws.CurveLaws.{same_coordinates}
+use Rattle.edwards.specs.Laws.CurveLaws.{same_coordinates}
 use Rattle.jubjub.specs.Laws.Elements.{same_element}
 use Rattle.jubjub.specs.Laws.Modulus.{has_inverses}
-use Rattle.edwards_numbers.specs.Laws.Quotients.{product_some}
+use Rattle.edwards.specs.Laws.Quotients.{product_some}
 use Rattle.jubjub.specs.Laws.FirstCoordinates.{denominator_some, one_square, over_alike, same_square, other_parity}
 use Rattle.jubjub.specs.Laws.FirstCoordinates.{same_root}
 

@@ -13,7 +13,7 @@ use Rattle.jubjub.specs.Elements.{coordinates}
 use Rattle.jubjub.specs.Spelling.{is_in_subgroup}
 use Rattle.jubjub.specs.Decoding.{least, is_first_over, first_over, tested_element, element_with, is_zero_at}
 use Rattle.jubjub.specs.Decoding.{cleared_over}
-use Rattle.edwards_numbers.specs.Laws.CurveLaws.{same_coordinates}
+use Rattle.edwards.specs.Laws.CurveLaws.{same_coordinates}
 use Rattle.jubjub.specs.Laws.Elements.{kept, same_element}
 use Rattle.jubjub.specs.Laws.Spelling.{in_subgroup-Decides}
 use Rattle.jubjub.specs.Laws.Modulus.{has_inverses}

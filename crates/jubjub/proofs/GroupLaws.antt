@@ -9,7 +9,7 @@ use Rattle.jubjub.specs.Extended.{Extended, Stands}
 use Rattle.jubjub.specs.Values.{Fr, value}
 use Rattle.jubjub.specs.Elements.{coordinates, jubjub}
 use Rattle.jubjub.specs.Laws.Elements.{same_element, coordinates_of}
-use Rattle.edwards_numbers.specs.Laws.CurveLaws.{same_coordinates}
+use Rattle.edwards.specs.Laws.CurveLaws.{same_coordinates}
 use Rattle.jubjub.specs.Laws.Group.{coordinates-times}
 use Rattle.jubjub.proofs.MultiplesOnCurve.{multiple_on_curve}
 

@@ -1,7 +1,7 @@
 -- What is proved of the curve and of its prime subgroup.
 use Rattle.std.specs.Prelude.{◌≡◌, ℕ, ◌+◌, ◌-◌, ◌*◌, ◌%◌, ◌<◌}
 use Rattle.ark_groups.specs.Group.{times}
-pub use Rattle.edwards_numbers.specs.Curves.{IsCommutativeGroupOn}
+pub use Rattle.edwards.specs.Curves.{IsCommutativeGroupOn}
 use Rattle.jubjub.specs.declared.element.Jubjub.{Jubjub}
 use Rattle.jubjub.specs.Edwards.{Coordinates, cross, over}
 use Rattle.jubjub.specs.Jubjub.{p, d, order, curve, IsOnJubjub, IsInSubgroup}

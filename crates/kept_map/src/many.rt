@@ -111,8 +111,8 @@ pub(crate) fn write_shown<H: KeptHash>(
     requires inside { count ≤ length forks.now }
     requires sorted { AreSorted level keys.now }
     ensures written { let h = kept_hashes H.leaf_hash H.node_hash H.nothing_hash in
-        OnOk result (IsWrittenAt h entries.now forks.now number (pruned h false false level keys.now)
-        bytes.old.items bytes.new.items) }
+        OnOk result (IsWrittenAt h entries.now forks.now number
+        (pruned h false false level keys.now) bytes.old.items bytes.new.items) }
     ensures found { let h = kept_hashes H.leaf_hash H.node_hash H.nothing_hash in
         (first : ℕ) (tree : Shape) (bits : List Bool)
         → LaidAt h (take first entries.now) forks.now count number tree → StandsAt bits tree

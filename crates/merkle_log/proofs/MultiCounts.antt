@@ -53,11 +53,6 @@ twice-fits level place low below =
 
 -- ---- complete places
 
-pub complete-by : (size level place : ℕ) → place < size / 2 ^ level → (place + 1) * 2 ^ level ≤ size
-complete-by size level place less =
-    let le : place + 1 ≤ size / 2 ^ level = omega arith in
-    omega (arith, mul-le-mul_right (2 ^ level) le, div-add-mod' size (2 ^ level))
-
 pub incomplete-by : (size level place : ℕ) → size / 2 ^ level ≤ place → size < (place + 1) * 2 ^ level
 incomplete-by size level place few =
     omega (

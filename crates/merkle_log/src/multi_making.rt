@@ -63,8 +63,8 @@ fn put_around<D: DigestItem, R: Rows<D>, H: NodeHasher<D>>(
     requires fits { length proof.old < 2 ^ 64 }
     ensures put { IsStored (H.hash hasher.old) (row_at (R.stored rows.now)) → (empty : Digest)
         → GivesBy H.why (λ next. map D.numbers (take next proof.new))
-        (put_behind (map D.numbers (take at proof.old)) (place_hashes (H.hash hasher.old) empty level
-        place indexes.now (take size (row_at (R.stored rows.now) 0)))) result }
+        (put_behind (map D.numbers (take at proof.old)) (place_hashes (H.hash hasher.old) empty
+        level place indexes.now (take size (row_at (R.stored rows.now) 0)))) result }
     ensures next { IfOk result (λ next. next ≡ at + count_around size level place indexes.now) }
     ensures long { length proof.new ≡ length proof.old }
     ensures same { H.hash hasher.new ≡ H.hash hasher.old }

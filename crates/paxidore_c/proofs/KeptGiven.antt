@@ -1,9 +1,9 @@
 -- What is given of a kept log over circomlib's hash, whatever is kept.
 use Rattle.std.proofs.Common.{◌≡◌, ℕ, List, ◌++◌, length, take, Result, Err, refl, sym, ap, ◌∙◌, inl, inr, arith}
 use Rattle.std.proofs.lemmas.List.{take-append-le, take_all}
-use Rattle.circom_logs.specs.Nodes.{refusal_error}
-use Rattle.circom_logs.specs.declared.refusal.NodeRefusal.{NodeRefusal}
-use Rattle.circom_logs.specs.declared.refusal.NodeRefusal.TheVariants.{Element, Memory as NoMemory}
+use Rattle.circom.specs.Nodes.{refusal_error}
+use Rattle.circom.specs.declared.refusal.NodeRefusal.{NodeRefusal}
+use Rattle.circom.specs.declared.refusal.NodeRefusal.TheVariants.{Element, Memory as NoMemory}
 use Rattle.paxidore_c.proofs.TwoInputs.{Refuses}
 use Rattle.paxidore_calls.specs.Answer.{refused_of}
 use Rattle.paxidore_c.specs.PoseidonLog.{OrInvalid}

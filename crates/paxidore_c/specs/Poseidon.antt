@@ -5,9 +5,9 @@ use Rattle.ark_base.specs.declared.error.Error.TheVariants.{OutOfMemory, Incorre
 use Rattle.ark_base.specs.declared.error.SerializationError.TheVariants.{Truncated as CutShort, InvalidData}
 use Rattle.ark_base.specs.Outcome.{Outcome}
 use Rattle.ark_sponge.specs.Permutation.{Parameters}
-use Rattle.circom_bytes.specs.declared.elements.ByteOrder.{ByteOrder}
-use Rattle.circom_bytes.specs.declared.elements.ByteOrder.TheVariants.{LittleEndian, BigEndian}
-use Rattle.circom_bytes.specs.Hash.{SpellsTable, hash_outcome}
+use Rattle.circom.specs.declared.elements.ByteOrder.{ByteOrder}
+use Rattle.circom.specs.declared.elements.ByteOrder.TheVariants.{LittleEndian, BigEndian}
+use Rattle.circom.specs.Hash.{SpellsTable, hash_outcome}
 use Rattle.paxidore_calls.specs.Answer.{refused_of}
 use Rattle.paxidore_calls.specs.declared.refused.Refused.{Refused}
 use Rattle.paxidore_calls.specs.declared.refused.Refused.TheVariants.{Count, Invalid}

@@ -4,8 +4,8 @@ use Rattle.std.specs.List.{list_all}
 use Rattle.ark_base.specs.Outcome.{◌>>=◌}
 use Rattle.ark_paths.specs.Pair.{Digest}
 use Rattle.ark_sponge.specs.Permutation.{Parameters}
-use Rattle.circom_bytes.specs.Hash.{is_element, node_outcome}
-use Rattle.circom_logs.specs.Nodes.{element_hashes}
+use Rattle.circom.specs.Hash.{is_element, node_outcome}
+use Rattle.circom.specs.Nodes.{element_hashes}
 use Rattle.merkle_log.specs.Edge.{all_of}
 use Rattle.merkle_log.specs.Log.{inclusion_path, merkle_tree_hash}
 use Rattle.merkle_log.specs.Received.{inclusion_length, received_inclusion}

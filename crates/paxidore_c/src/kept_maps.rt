@@ -234,8 +234,9 @@ fn hand_proof(made: Result<Vec<u8>, ProveFault>, proof: &mut [u8], proof_len: &m
     ensures fault { IfErr made (λ fault. result ≡ proof_fault_code fault) }
     ensures codes { (result ≡ pos 0) ⊎ (result ≡ fault_code Room) ⊎ (result ≡ fault_code NoMap)
         ⊎ (result ≡ refusal_code Memory) ⊎ (result ≡ refusal_code Index) }
-    ensures unordered { IfErr made (λ fault. fault ≢ Order) → (result ≡ pos 0) ⊎ (result ≡ fault_code Room)
-        ⊎ (result ≡ fault_code NoMap) ⊎ (result ≡ refusal_code Memory) }
+    ensures unordered { IfErr made (λ fault. fault ≢ Order) → (result ≡ pos 0)
+        ⊎ (result ≡ fault_code Room) ⊎ (result ≡ fault_code NoMap)
+        ⊎ (result ≡ refusal_code Memory) }
     ensures kept { result ≢ pos 0 → proof.new ≡ proof.old }
     ensures uncounted { result ≢ pos 0 → result ≢ fault_code Room → proof_len.new ≡ proof_len.old }
 {

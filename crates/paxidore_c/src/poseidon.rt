@@ -2,14 +2,14 @@
 
 ghost use Rattle.std.specs.Prelude.{◌≡◌, ◌≢◌, ◌⊎◌, ◌<◌, ◌≤◌, ◌++◌, ℕ, List, length, drop, pos, IfOk, IfErr, Result, Ok, Err};
 ghost use Rattle.ark_sponge.specs.Permutation.{Parameters};
-ghost use Rattle.circom_bytes.specs.Hash.{IsCircomRefused, SpellsTable, hash_outcome};
+ghost use Rattle.circom.specs.Hash.{IsCircomRefused, SpellsTable, hash_outcome};
 ghost use Rattle.paxidore_calls.specs.Answer.{GivesCode, CallGivesBy, Hands, done_code, refusal_code};
 ghost use Rattle.paxidore_calls.specs.declared.refused.Refused.{Refused as Why};
 ghost use Rattle.paxidore_calls.specs.declared.refused.Refused.TheVariants.{Count, Memory, Other, Room};
 ghost use Rattle.paxidore_c.specs.Poseidon.{IsCircomTable, hashing_refused, poseidon_hash, refused_inputs};
 
 use ark_base::error::Error;
-use circom_bytes::{ByteOrder, CircomTable, circom_table};
+use circom::{ByteOrder, CircomTable, circom_table};
 use paxidore_calls::buffer::hand_over;
 use paxidore_calls::refused::Refused;
 use std::alloc::Global;

@@ -6,8 +6,8 @@
 ghost use Rattle.std.specs.Prelude.{◌≡◌, ◌≢◌, ◌⊎◌, ◌<◌, ◌^◌, ℕ, [], length, pos, true, IfErr, IfOk, MatchResult, Ok};
 ghost use Rattle.std.specs.List.{list_all};
 ghost use Rattle.ark_sponge.specs.Permutation.{Parameters};
-ghost use Rattle.circom_bytes.specs.Hash.{IsTableOf, SpellsTable, is_element, node_outcome};
-ghost use Rattle.circom_logs.specs.Nodes.{element_hashes};
+ghost use Rattle.circom.specs.Hash.{IsTableOf, SpellsTable, is_element, node_outcome};
+ghost use Rattle.circom.specs.Nodes.{element_hashes};
 ghost use Rattle.merkle_log.specs.Log.{merkle_tree_hash};
 ghost use Rattle.merkle_log.specs.Received.{ShowsLogLeaf, inclusion_length};
 ghost use Rattle.paxidore_calls.specs.Answer.{GivesCode, CallGivesBy, Hands, done_code, refused_of, verdict_code};
@@ -15,8 +15,7 @@ ghost use Rattle.paxidore_calls.specs.LogProofs.{proof_digests};
 ghost use Rattle.paxidore_c.specs.PoseidonLog.{element_shown, elements_given, elements_path, elements_root, if_two, is_log_size, element_verdict};
 ghost use Rattle.paxidore_calls.specs.declared.refused.Refused.TheVariants.{Count, Memory, Room};
 
-use circom_bytes::CircomTable;
-use circom_logs::{CircomNodes, are_elements};
+use circom::{CircomNodes, CircomTable, are_elements};
 use merkle_log::kept::is_size;
 use merkle_log::verify_inclusion_bytes;
 use paxidore_calls::buffer::{bytes_of_path, hand_over};
@@ -82,7 +81,7 @@ fn root_of(alloc: Global, table: &[u8], elements: &[[u8; 32]]) -> Result<[u8; 32
         Ok(()) => {}
         Err(refused) => return Err(refused),
     }
-    match circom_logs::root_of_elements(alloc, &table, elements) {
+    match circom::root_of_elements(alloc, &table, elements) {
         Ok(root) => Ok(root),
         Err(refusal) => Err(Refused::from(refusal)),
     }
@@ -137,7 +136,7 @@ fn path_of(
     if index >= elements.len() {
         return Err(Refused::Index);
     }
-    let path = match circom_logs::path_of_elements(alloc, &table, elements, index) {
+    let path = match circom::path_of_elements(alloc, &table, elements, index) {
         Ok(path) => path,
         Err(refusal) => return Err(Refused::from(refusal)),
     };

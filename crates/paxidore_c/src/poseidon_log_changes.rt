@@ -3,15 +3,15 @@
 ghost use Rattle.std.specs.Prelude.{◌≡◌, ◌≢◌, ℕ, List, [], length, get_or, set, pos, Result, Ok};
 ghost use Rattle.ark_paths.specs.Pair.{Digest};
 ghost use Rattle.ark_sponge.specs.Permutation.{Parameters};
-ghost use Rattle.circom_bytes.specs.Hash.{IsTableOf, SpellsTable, node_outcome};
-ghost use Rattle.circom_logs.specs.Changed.{IsOverLeaf};
+ghost use Rattle.circom.specs.Hash.{IsTableOf, SpellsTable, node_outcome};
+ghost use Rattle.circom.specs.Changed.{IsOverLeaf};
 ghost use Rattle.merkle_log.specs.Kept.{KeepsBy, has_front};
 ghost use Rattle.paxidore_calls.specs.Answer.{GivesCode, done_code};
 ghost use Rattle.paxidore_c.specs.PoseidonLog.{OrInvalid, changed_element, element_changed};
 ghost use Rattle.paxidore_calls.specs.declared.refused.Refused.{Refused};
 
 use crate::poseidon_log::table_of_two;
-use circom_bytes::CircomTable;
+use circom::CircomTable;
 use merkle_log::kept::Kept;
 use paxidore_calls::refused::Refused;
 use std::alloc::Global;
@@ -52,7 +52,7 @@ fn set_element(
     if index >= size {
         return Refused::Index.code();
     }
-    match circom_logs::change_element(table, kept, size, index, element) {
+    match circom::change_element(table, kept, size, index, element) {
         Ok(()) => 0,
         Err(_) => Refused::Invalid.code(),
     }

@@ -4,7 +4,7 @@ ghost use Rattle.std.specs.Prelude.{◌≡◌, ◌≢◌, ◌≤◌, ◌+◌, �
 ghost use Rattle.std.specs.List.{list_all};
 ghost use Rattle.ark_paths.specs.Pair.{Digest};
 ghost use Rattle.ark_sponge.specs.Permutation.{Parameters};
-ghost use Rattle.circom_bytes.specs.Hash.{IsTableOf, SpellsTable, is_element, node_outcome};
+ghost use Rattle.circom.specs.Hash.{IsTableOf, SpellsTable, is_element, node_outcome};
 ghost use Rattle.merkle_log.specs.Kept.{KeepsBy};
 ghost use Rattle.merkle_log.specs.Log.{merkle_tree_hash};
 ghost use Rattle.merkle_log.specs.Stored.{stored_count};
@@ -16,8 +16,7 @@ ghost use Rattle.paxidore_calls.specs.declared.refused.Refused.{Refused};
 
 use crate::log_keeper::more_count;
 use crate::poseidon_log::table_of_two;
-use circom_bytes::CircomTable;
-use circom_logs::are_elements;
+use circom::{CircomTable, are_elements};
 use merkle_log::kept::Kept;
 use paxidore_calls::buffer::{bytes_of_path, hand_over};
 use paxidore_calls::refused::Refused;
@@ -53,7 +52,7 @@ fn kept_root_of(
     if size == 0 {
         return Err(Refused::Size);
     }
-    match circom_logs::kept_log_root(&table, &kept) {
+    match circom::kept_log_root(&table, &kept) {
         Ok(root) => Ok(root),
         Err(refusal) => Err(Refused::from(refusal)),
     }
@@ -127,7 +126,7 @@ fn kept_path_of(
     if index >= size {
         return Err(Refused::Index);
     }
-    let path = match circom_logs::inclusion_path(alloc, &table, &kept, index) {
+    let path = match circom::inclusion_path(alloc, &table, &kept, index) {
         Ok(path) => path,
         Err(refusal) => return Err(Refused::from(refusal)),
     };
@@ -215,7 +214,7 @@ fn append_elements(
     if !are_elements(elements) {
         return Refused::Invalid.code();
     }
-    match circom_logs::appended_digests(alloc, table, &kept, elements) {
+    match circom::appended_digests(alloc, table, &kept, elements) {
         Ok(digests) => {
             *more_len = digests.len();
             more[..digests.len()].copy_from_slice(&digests);

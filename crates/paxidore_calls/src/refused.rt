@@ -2,11 +2,11 @@
 
 ghost use Rattle.std.specs.Prelude.{◌≡◌};
 ghost use Rattle.paxidore_calls.specs.declared.refused.Refused.TheVariants.{Memory};
-ghost use Rattle.circom_logs.specs.Nodes.{refusal_error};
+ghost use Rattle.circom.specs.Nodes.{refusal_error};
 ghost use Rattle.paxidore_calls.specs.Answer.{refusal_code, refused_of, refusing, verdict_code};
 
 use ark_base::error::{Error, SerializationError};
-use circom_logs::NodeRefusal;
+use circom::NodeRefusal;
 use std::alloc::{AllocError, AllocFailed};
 
 /// Why a call is refused.

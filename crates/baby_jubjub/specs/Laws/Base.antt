@@ -1,8 +1,8 @@
 -- Base8 is on the curve, its multiple by the order is zero, and it is eight times the generator, by computation.
 use Rattle.std.proofs.Common.{◌≡◌, ◌^◌, ◌<◌, refl, ◌∙◌, lit<}
 use Rattle.ark_groups.specs.Group.{times}
-use Rattle.edwards_numbers.specs.Edwards.{neutral, edwards, IsOnCurve}
-use Rattle.edwards_numbers.specs.Laws.Ladder.{ladder, multiple_is}
+use Rattle.edwards.specs.Edwards.{neutral, edwards, IsOnCurve}
+use Rattle.edwards.specs.Laws.Ladder.{ladder, multiple_is}
 use Rattle.baby_jubjub.specs.BabyJubjub.{p, d, order, factor, base8, generator, IsOnBabyJubjub}
 use Rattle.baby_jubjub.specs.Scaled.{scaled_by}
 use Rattle.baby_jubjub.specs.Laws.Curve.{baby_jubjub_is_complete}

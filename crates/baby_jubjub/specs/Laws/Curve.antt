@@ -1,6 +1,6 @@
 -- Baby Jubjub with the first coefficient -1 is complete: -1 is a square modulo p, and d is none.
 use Rattle.std.proofs.Common.{◌-◌, ◌/◌, refl, lit<, lit≤}
-use Rattle.edwards_numbers.specs.Curves.{IsComplete}
+use Rattle.edwards.specs.Curves.{IsComplete}
 use Rattle.ark_wide_fields.specs.Laws.Bn254Fr.{prime_factors, generates}
 use Rattle.baby_jubjub.specs.BabyJubjub.{p, d, factor, one_over_factor}
 use Rattle.baby_jubjub.specs.Scaled.{IsFactor}

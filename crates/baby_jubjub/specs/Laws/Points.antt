@@ -2,7 +2,7 @@
 use Rattle.std.proofs.Common.{◌≡◌}
 use Rattle.std.proofs.Math.Nat.{ℕ_set}
 use Rattle.std.specs.Coded.{le_prop}
-use Rattle.edwards_numbers.specs.Edwards.{Coordinates}
+use Rattle.edwards.specs.Edwards.{Coordinates}
 use Rattle.baby_jubjub.specs.BabyJubjub.{IsOnBabyJubjub}
 
 pub on_curve_alike : (q : Coordinates) (u v : IsOnBabyJubjub q) → u ≡ v

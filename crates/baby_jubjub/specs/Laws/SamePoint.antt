@@ -2,7 +2,7 @@
 use Rattle.std.proofs.Common.{◌≡◌, ap}
 use mathlib.Core.HLevel.{is_prop→PathP}
 use Rattle.ark_wide_fields.specs.Laws.Fp256.{wide_same}
-use Rattle.edwards_numbers.specs.Edwards.{Coordinates}
+use Rattle.edwards.specs.Edwards.{Coordinates}
 use Rattle.baby_jubjub.specs.declared.point.Point.{Point}
 use Rattle.baby_jubjub.specs.BabyJubjub.{IsOnBabyJubjub}
 use Rattle.baby_jubjub.specs.Points.{coordinates_at, coordinates}

@@ -1,8 +1,8 @@
 -- The base point is on the curve, and its multiple by the order is zero, by computation.
 use Rattle.std.proofs.Common.{◌≡◌, ◌^◌, ◌<◌, refl, ◌∙◌, lit<}
 use Rattle.ark_groups.specs.Group.{times}
-use Rattle.edwards_numbers.specs.Edwards.{neutral}
-use Rattle.edwards_numbers.specs.Laws.Ladder.{ladder, multiple_is}
+use Rattle.edwards.specs.Edwards.{neutral}
+use Rattle.edwards.specs.Laws.Ladder.{ladder, multiple_is}
 use Rattle.ed25519.specs.Edwards25519.{p, d, order, curve, base_point, IsOnEd25519}
 use Rattle.ed25519.specs.Laws.Curve.{ed25519_is_complete}
 

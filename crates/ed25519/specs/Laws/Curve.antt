@@ -1,6 +1,6 @@
 -- edwards25519 is complete: -1 is a square modulo p, and d is none.
 use Rattle.std.proofs.Common.{◌-◌, ◌/◌, refl, lit<}
-use Rattle.edwards_numbers.specs.Curves.{IsComplete}
+use Rattle.edwards.specs.Curves.{IsComplete}
 use Rattle.ed25519.specs.Edwards25519.{p, d, square_root_of_minus_one}
 use Rattle.ed25519.specs.Laws.ModulusPrime.{factors_p, generates_p}
 

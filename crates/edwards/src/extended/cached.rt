@@ -2,8 +2,8 @@
 
 ghost use Rattle.std.specs.Prelude.{◌≡◌, ℕ, ◌*◌, ◌%◌, ⊤};
 ghost use Rattle.ark_groups.specs.Words.{number};
-ghost use Rattle.edwards_numbers.specs.Edwards.{Coordinates, IsOnCurve, negative, sum};
-ghost use Rattle.edwards_numbers.specs.Curves.{IsComplete};
+ghost use Rattle.edwards.specs.Edwards.{Coordinates, IsOnCurve, negative, sum};
+ghost use Rattle.edwards.specs.Curves.{IsComplete};
 ghost use Rattle.edwards.specs.Extended.{Stands, StandsApart};
 ghost use Rattle.edwards.specs.Cached.{IsCached};
 ghost use Rattle.edwards.specs.Values.{value};

@@ -2,8 +2,8 @@
 use Rattle.std.proofs.Common.{◌≡◌, ℕ, ◌+◌, ◌*◌, ◌%◌, ◌<◌, refl, sym, ◌∙◌, ap, subst, arith, lit<, mul_comm}
 use Rattle.ark_groups.specs.Group.{times}
 use Rattle.ark_groups.proofs.Multiples.{times-mul}
-use Rattle.edwards_numbers.specs.Laws.CurveLaws.{same_coordinates}
-use Rattle.edwards_numbers.specs.Laws.Points.{same_point}
+use Rattle.edwards.specs.Laws.CurveLaws.{same_coordinates}
+use Rattle.edwards.specs.Laws.Points.{same_point}
 use Rattle.jubjub.specs.Edwards.{Coordinates}
 use Rattle.jubjub.specs.Jubjub.{p, d, order, curve, IsOnJubjub, IsInSubgroup}
 use Rattle.jubjub.specs.Laws.Completeness.{jubjub_is_complete}

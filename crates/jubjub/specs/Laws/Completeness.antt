@@ -1,8 +1,8 @@
 -- Jubjub is complete: -1 is a square modulo p, and d is none.
 use Rattle.std.proofs.Common.{◌-◌, ◌/◌, refl, lit<}
-use Rattle.edwards_numbers.specs.Curves.{IsComplete}
-use Rattle.edwards_numbers.specs.Laws.CurveLaws.{NoCrossIsOne}
-use Rattle.edwards_numbers.specs.Laws.Completeness as curves
+use Rattle.edwards.specs.Curves.{IsComplete}
+use Rattle.edwards.specs.Laws.CurveLaws.{NoCrossIsOne}
+use Rattle.edwards.specs.Laws.Completeness as curves
 use Rattle.ark_wide_fields.specs.Laws.Bls12_381Fr.{prime_factors, generates}
 use Rattle.jubjub.specs.Jubjub.{p, d}
 use Rattle.jubjub.specs.Laws.Modulus.{d_is_no_square}

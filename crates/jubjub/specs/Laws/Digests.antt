@@ -5,7 +5,7 @@ use Rattle.jubjub.specs.declared.element.Jubjub.{Jubjub}
 use Rattle.jubjub.specs.Edwards.{Coordinates}
 use Rattle.jubjub.specs.Elements.{coordinates}
 use Rattle.jubjub.specs.Spelling.{spelling, coordinates_in, numbers_in}
-use Rattle.edwards_numbers.specs.Laws.CurveLaws.{same_coordinates}
+use Rattle.edwards.specs.Laws.CurveLaws.{same_coordinates}
 use Rattle.jubjub.specs.Laws.Elements.{same_element}
 use Rattle.jubjub.specs.Laws.Group.{words_eq, same_if_equal}
 use Rattle.jubjub.specs.Laws.Spelling.{spelled_back}

@@ -8,7 +8,7 @@ use Rattle.jubjub.specs.declared.element.Jubjub.{Jubjub}
 use Rattle.jubjub.specs.Edwards.{Coordinates}
 use Rattle.jubjub.specs.Jubjub.{p, d, IsInSubgroup}
 use Rattle.jubjub.specs.Values.{Fr, value}
-use Rattle.edwards_numbers.specs.Laws.CurveLaws.{same_coordinates}
+use Rattle.edwards.specs.Laws.CurveLaws.{same_coordinates}
 use Rattle.jubjub.specs.Laws.Points.{in_subgroup_alike}
 
 -- the coordinates that two elements of the field are

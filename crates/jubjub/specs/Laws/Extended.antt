@@ -5,10 +5,10 @@ use Rattle.jubjub.specs.Edwards.{Coordinates}
 use Rattle.jubjub.specs.Jubjub.{p, IsInSubgroup}
 use Rattle.jubjub.specs.Extended.{Extended, Stands, affine_at, IsInside}
 use Rattle.jubjub.specs.Values.{value}
-use Rattle.edwards_numbers.specs.Laws.CurveLaws.{same_coordinates}
+use Rattle.edwards.specs.Laws.CurveLaws.{same_coordinates}
 use Rattle.jubjub.specs.Laws.Modulus.{has_inverses}
 use Rattle.jubjub.specs.Laws.Points.{in_subgroup_alike}
-use Rattle.edwards_numbers.specs.Laws.Quotients.{is_over}
+use Rattle.edwards.specs.Laws.Quotients.{is_over}
 
 never_alike : (a b : ⊥) → a ≡ b
 never_alike a b = absurd a

@@ -12,7 +12,7 @@ use Rattle.number_facts.proofs.Units.{no_root}
 use Rattle.ark_wide_fields.specs.Laws.Bls12_381Fr.{prime_factors, generates}
 use Rattle.jubjub.specs.Jubjub.{p, d}
 use Rattle.jubjub.specs.Laws.Modulus.{d_is_no_square}
-use Rattle.edwards_numbers.specs.Laws.Quotients.{HasInverses, product_some, cancelled}
+use Rattle.edwards.specs.Laws.Quotients.{HasInverses, product_some, cancelled}
 
 again : (a m : ℕ) → a % m % m ≡ a % m
 again a m = ap (λ t. t % m) (once (a % m)) ∙ mul-mod_first a 1 m ∙ ap (λ t. t % m) (sym (once a))

@@ -1,6 +1,6 @@
 -- The generator is in the prime subgroup, by computation.
 use Rattle.std.proofs.Common.{◌≡◌, ◌^◌, ◌<◌, refl, ◌∙◌, lit<}
-use Rattle.edwards_numbers.specs.Laws.Ladder.{ladder, multiple_is}
+use Rattle.edwards.specs.Laws.Ladder.{ladder, multiple_is}
 use Rattle.jubjub.specs.Edwards.{neutral}
 use Rattle.jubjub.specs.Jubjub.{p, d, order, base_point, IsOnJubjub, IsInSubgroup}
 use Rattle.jubjub.specs.Laws.Completeness.{jubjub_is_complete}

@@ -14,7 +14,7 @@ use Rattle.jubjub.specs.Elements.{coordinates, jubjub}
 use Rattle.jubjub.specs.Laws.Elements.{kept, same_element}
 use Rattle.jubjub.specs.Laws.Modulus.{has_inverses}
 use Rattle.jubjub.specs.Laws.Completeness.{complete}
-use Rattle.edwards_numbers.specs.Laws.CurveLaws.{same_coordinates, sum_comm, sum_neutral, sum_negative, sum_assoc}
+use Rattle.edwards.specs.Laws.CurveLaws.{same_coordinates, sum_comm, sum_neutral, sum_negative, sum_assoc}
 use Rattle.jubjub.specs.Laws.Points.{neutral_in_subgroup, sum_in_subgroup, negative_in_subgroup}
 
 pub at-identity : coordinates jubjub.identity ≡ neutral

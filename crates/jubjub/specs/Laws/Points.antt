@@ -3,9 +3,9 @@ use Rattle.std.proofs.Common.{◌≡◌, ℕ, sym, ◌∙◌, ap}
 use Rattle.std.proofs.Math.Nat.{ℕ_set}
 use Rattle.ark_groups.specs.Group.{Group, IsCommutativeGroup, times}
 use Rattle.ark_groups.proofs.Multiples.{times-plus, times-identity, right_identity}
-use Rattle.edwards_numbers.specs.Laws.CurveLaws.{sum_closed, neutral_on_curve, negative_closed}
-use Rattle.edwards_numbers.specs.Laws.Points as curves
-use Rattle.edwards_numbers.specs.Laws.Points.{on_curve_alike}
+use Rattle.edwards.specs.Laws.CurveLaws.{sum_closed, neutral_on_curve, negative_closed}
+use Rattle.edwards.specs.Laws.Points as curves
+use Rattle.edwards.specs.Laws.Points.{on_curve_alike}
 use Rattle.jubjub.specs.Edwards.{Coordinates, sum, neutral, negative}
 use Rattle.jubjub.specs.Jubjub.{p, d, order, curve, IsInSubgroup}
 use Rattle.jubjub.specs.Laws.Modulus.{has_inverses}

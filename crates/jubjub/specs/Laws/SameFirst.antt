@@ -9,12 +9,12 @@ use Rattle.jubjub.specs.declared.element.Jubjub.{Jubjub}
 use Rattle.jubjub.specs.Edwards.{Coordinates, cross, sum, neutral}
 use Rattle.jubjub.specs.Jubjub.{p, d, order, IsOnJubjub}
 use Rattle.jubjub.specs.Elements.{coordinates, jubjub}
-use Rattle.edwards_numbers.specs.Laws.CurveLaws.{same_coordinates, above_some, below_some}
+use Rattle.edwards.specs.Laws.CurveLaws.{same_coordinates, above_some, below_some}
 use Rattle.jubjub.specs.Laws.Completeness.{complete}
 use Rattle.jubjub.specs.Laws.Elements.{same_element}
 use Rattle.jubjub.specs.Laws.Group.{jubjub_laws, at-identity, at-plus, at-opposite}
 use Rattle.jubjub.specs.Laws.Modulus.{has_inverses, d_is_no_square}
-use Rattle.edwards_numbers.specs.Laws.Quotients.{cancelled, is_over}
+use Rattle.edwards.specs.Laws.Quotients.{cancelled, is_over}
 use Rattle.jubjub.specs.Laws.PrimeOrder.{of_prime_order}
 use Rattle.jubjub.specs.Laws.FirstCoordinates.{one_root}
 

@@ -18,7 +18,7 @@ use Rattle.ark_groups.specs.Group.{times}
 use Rattle.jubjub.specs.Edwards.{Coordinates, IsOnCurve, neutral}
 use Rattle.jubjub.specs.Jubjub.{p, d, order, curve, IsInSubgroup}
 use Rattle.jubjub.specs.Spelling.{spelling, coordinates_in, is_in_subgroup, element_of, jubjub_element_at}
-use Rattle.edwards_numbers.specs.Laws.CurveLaws.{same_coordinates}
+use Rattle.edwards.specs.Laws.CurveLaws.{same_coordinates}
 
 pub length-spelling : (a : Coordinates) → length (spelling a) ≡ 64
 length-spelling a = length-append (bytes_of_number 32 a.x) (bytes_of_number 32 a.y)

@@ -7,9 +7,9 @@ use Rattle.number_facts.specs.Powers.{power_mod}
 use Rattle.number_facts.proofs.Units.{no_root}
 use Rattle.ark_wide_fields.specs.Laws.Bls12_381Fr.{prime_factors, generates}
 use Rattle.ark_groups.specs.Group.{times}
-use Rattle.edwards_numbers.specs.Laws.CurveLaws.{above_some, x_of, y_of}
-use Rattle.edwards_numbers.specs.Laws.Ladder.{ladder, multiple_is}
-use Rattle.edwards_numbers.specs.Laws.Points.{same_point}
+use Rattle.edwards.specs.Laws.CurveLaws.{above_some, x_of, y_of}
+use Rattle.edwards.specs.Laws.Ladder.{ladder, multiple_is}
+use Rattle.edwards.specs.Laws.Points.{same_point}
 use Rattle.jubjub.specs.Edwards.{Coordinates, cross, neutral, sum}
 use Rattle.jubjub.specs.Jubjub.{p, d, order, curve, IsOnJubjub}
 use Rattle.jubjub.specs.Laws.Completeness.{complete, jubjub_is_complete}

@@ -45,7 +45,8 @@ impl<C: FixedBaseGroup> PreparedParameters<C> {
     /// the scalars' modulus; `OutOfMemory`.
     pub fn new(alloc: Global, parameters: Parameters<C>) -> Result<PreparedParameters<C>, Error>
         ensures made { let bits = C.ScalarField.MODULUS_BIT_SIZE in
-            IfOk result (λ made. elements_by_table C.base C.group bits made ≡ elements_in parameters) }
+            IfOk result (λ made. elements_by_table C.base C.group bits made
+            ≡ elements_in parameters) }
         ensures refused { let bits = C.ScalarField.MODULUS_BIT_SIZE in
             IfErr result (IsDoublingFault C.group bits (elements_in parameters).randomness) }
     {

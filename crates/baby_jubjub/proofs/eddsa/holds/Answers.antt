@@ -1,8 +1,8 @@
 use Rattle.std.proofs.Common.{sym, ◌∙◌, ap, ap₂, subst}
 use Rattle.ark_groups.specs.Group.{times}
 use Rattle.ark_groups.specs.Words.{number}
-use Rattle.edwards_numbers.specs.Edwards.{sum}
-use Rattle.edwards_numbers.specs.Laws.Points.{at-times}
+use Rattle.edwards.specs.Edwards.{sum}
+use Rattle.edwards.specs.Laws.Points.{at-times}
 use Rattle.edwards.specs.Extended.{Stands}
 use Rattle.baby_jubjub.specs.BabyJubjub.{p, d, scaled}
 use Rattle.baby_jubjub.specs.Laws.Curve.{baby_jubjub_is_complete}

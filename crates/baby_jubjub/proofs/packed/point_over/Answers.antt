@@ -1,5 +1,5 @@
 use Rattle.std.proofs.Common.{◌≡◌, ℕ, ◌∙◌, ap, sym, subst}
-use Rattle.edwards_numbers.specs.Edwards.{Coordinates}
+use Rattle.edwards.specs.Edwards.{Coordinates}
 use Rattle.ark_wide_fields.proofs.PowerSteps.{unless}
 use Rattle.baby_jubjub.specs.BabyJubjub.{IsOnBabyJubjub}
 use Rattle.baby_jubjub.specs.Packed.{sign}

@@ -1,6 +1,6 @@
 use Rattle.std.proofs.Common.{◌≡◌, ℕ, List, length, sym, ◌∙◌, ap, true≢false}
 use Rattle.std.proofs.lemmas.Slice.Eq.{bytes_eq-Decides}
-use Rattle.edwards_numbers.specs.Laws.CurveLaws.{same_coordinates}
+use Rattle.edwards.specs.Laws.CurveLaws.{same_coordinates}
 use Rattle.ed25519.specs.Spelling.{spelling}
 use Rattle.ed25519.specs.Points.{coordinates_of}
 use Rattle.ed25519.specs.Values.{value}

@@ -1,8 +1,8 @@
 use Rattle.std.proofs.Common.{refl, ◌∙◌, ap, subst}
 use Rattle.ark_groups.specs.Words.{number}
-use Rattle.edwards_numbers.specs.Edwards.{Coordinates, negative}
-use Rattle.edwards_numbers.specs.Laws.CurveLaws.{same_coordinates, negative_closed}
-use Rattle.edwards_numbers.specs.Laws.Completeness.{has_inverses, complete}
+use Rattle.edwards.specs.Edwards.{Coordinates, negative}
+use Rattle.edwards.specs.Laws.CurveLaws.{same_coordinates, negative_closed}
+use Rattle.edwards.specs.Laws.Completeness.{has_inverses, complete}
 use Rattle.edwards.specs.Extended.{Stands}
 use Rattle.ed25519.specs.Edwards25519.{p, d, base_point, IsOnEd25519}
 use Rattle.ed25519.specs.Laws.Curve.{ed25519_is_complete}

@@ -1,7 +1,7 @@
 use Rattle.std.proofs.Common.{◌∙◌, ap}
 use Rattle.ark_groups.specs.Group.{times}
 use Rattle.ark_groups.specs.Words.{number}
-use Rattle.edwards_numbers.specs.Edwards.{Coordinates}
+use Rattle.edwards.specs.Edwards.{Coordinates}
 use Rattle.edwards.proofs.Sums.{multiple_on_curve}
 use Rattle.ed25519.specs.Edwards25519.{p, d, curve, base_point}
 use Rattle.ed25519.specs.Laws.Curve.{ed25519_is_complete}

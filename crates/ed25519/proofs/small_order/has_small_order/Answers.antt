@@ -1,6 +1,6 @@
 use Rattle.std.proofs.Common.{◌≡◌, ◌*◌, ◌%◌, ◌∙◌, ap, refl, sym, subst, true≢false}
 use Rattle.ark_groups.specs.Group.{times}
-use Rattle.edwards_numbers.specs.Edwards.{Coordinates, neutral}
+use Rattle.edwards.specs.Edwards.{Coordinates, neutral}
 use Rattle.edwards.proofs.Sums.{multiple_on_curve}
 use Rattle.ed25519.specs.Edwards25519.{p, d, curve, IsOnEd25519}
 use Rattle.ed25519.specs.Laws.Curve.{ed25519_is_complete}

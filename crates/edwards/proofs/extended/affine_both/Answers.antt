@@ -1,8 +1,8 @@
 use Rattle.std.proofs.Common.{◌≡◌, ◌*◌, ◌%◌, sym, ◌∙◌}
 use Rattle.ark_groups.specs.Words.{number}
-use Rattle.edwards_numbers.specs.Laws.Completeness.{has_inverses}
-use Rattle.edwards_numbers.specs.Laws.CurveLaws.{same_coordinates}
-use Rattle.edwards_numbers.specs.Laws.Quotients.{product_some}
+use Rattle.edwards.specs.Laws.Completeness.{has_inverses}
+use Rattle.edwards.specs.Laws.CurveLaws.{same_coordinates}
+use Rattle.edwards.specs.Laws.Quotients.{product_some}
 use Rattle.edwards.specs.Values.{value}
 use Rattle.edwards.proofs.Divided.{divided, is_prime, inverse_of_first, inverse_of_second}
 use Rattle.edwards.proofs.extended.affine_both.Goals as goal

@@ -1,7 +1,7 @@
 use Rattle.ark_groups.specs.Words.{number}
-use Rattle.edwards_numbers.specs.Edwards.{sum}
-use Rattle.edwards_numbers.specs.Laws.Completeness.{has_inverses, complete}
-use Rattle.edwards_numbers.specs.Laws.CurveLaws.{sum_closed}
+use Rattle.edwards.specs.Edwards.{sum}
+use Rattle.edwards.specs.Laws.Completeness.{has_inverses, complete}
+use Rattle.edwards.specs.Laws.CurveLaws.{sum_closed}
 use Rattle.edwards.proofs.extended.doubled_twice.Goals as goal
 
 pub returns : goal.returns

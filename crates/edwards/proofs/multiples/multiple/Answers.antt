@@ -1,7 +1,7 @@
 use Rattle.std.proofs.Common.{◌≡◌, ◌+◌, ◌*◌, ◌^◌, ◌∙◌, ap, subst, arith}
 use Rattle.ark_groups.specs.Group.{times}
 use Rattle.ark_groups.specs.Words.{number}
-use Rattle.edwards_numbers.specs.Edwards.{edwards}
+use Rattle.edwards.specs.Edwards.{edwards}
 use Rattle.edwards.specs.Extended.{Stands}
 use Rattle.edwards.proofs.Digits.{begins, counted_more, counted_all}
 use Rattle.edwards.proofs.multiples.multiple.Goals as goal

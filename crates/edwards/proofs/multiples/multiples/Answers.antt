@@ -2,7 +2,7 @@ use Rattle.std.proofs.Common.{◌-◌, replicate, refl, ◌∙◌, arith}
 use Rattle.std.proofs.lemmas.List.{length-set}
 use Rattle.ark_groups.specs.Group.{times}
 use Rattle.ark_groups.specs.Words.{number}
-use Rattle.edwards_numbers.specs.Edwards.{edwards}
+use Rattle.edwards.specs.Edwards.{edwards}
 use Rattle.edwards.proofs.Digits.{first_multiple, next_multiple}
 use Rattle.edwards.proofs.Sums.{multiple_on_curve}
 use Rattle.edwards.proofs.multiples.multiples.Goals as goal

@@ -1,7 +1,7 @@
 use Rattle.std.proofs.Common.{◌≡◌, ℕ, ◌*◌, ◌%◌, length}
 use Rattle.ark_groups.specs.Words.{number}
-use Rattle.edwards_numbers.specs.Edwards.{Coordinates, IsOnCurve}
-use Rattle.edwards_numbers.specs.Curves.{IsComplete}
+use Rattle.edwards.specs.Edwards.{Coordinates, IsOnCurve}
+use Rattle.edwards.specs.Curves.{IsComplete}
 use Rattle.edwards.specs.Values.{value}
 use Rattle.edwards.specs.Extended.{Stands, AreMultiples}
 use Rattle.edwards.proofs.multiples.multiples.Given as goal

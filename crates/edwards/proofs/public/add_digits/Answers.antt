@@ -1,6 +1,6 @@
 use Rattle.std.proofs.Common.{◌∙◌, subst}
 use Rattle.ark_groups.specs.Words.{number}
-use Rattle.edwards_numbers.specs.Laws.Points.{Point, points}
+use Rattle.edwards.specs.Laws.Points.{Point, points}
 use Rattle.edwards.specs.Cached.{signed_multiple}
 use Rattle.edwards.specs.Extended.{StandsApart}
 use Rattle.edwards.proofs.OddMultiples.{adds_nothing}

@@ -1,6 +1,6 @@
 use Rattle.std.proofs.Common.{◌≡◌, ◌+◌, ◌-◌, get_or, arith, subst}
 use Rattle.ark_groups.specs.Words.{number}
-use Rattle.edwards_numbers.specs.Laws.Points.{Point, points, points_laws}
+use Rattle.edwards.specs.Laws.Points.{Point, points, points_laws}
 use Rattle.edwards.specs.Cached.{signed_multiple}
 use Rattle.edwards.specs.Extended.{Stands}
 use Rattle.edwards.proofs.Balance.{Reached, none_reached, next_reached, all_reached, by_digit}

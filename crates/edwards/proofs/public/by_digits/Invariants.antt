@@ -1,7 +1,7 @@
 use Rattle.std.proofs.Common.{◌≤◌, ℕ}
 use Rattle.ark_groups.specs.Words.{number}
-use Rattle.edwards_numbers.specs.Curves.{IsComplete}
-use Rattle.edwards_numbers.specs.Laws.Points.{Point}
+use Rattle.edwards.specs.Curves.{IsComplete}
+use Rattle.edwards.specs.Laws.Points.{Point}
 use Rattle.edwards.specs.Cached.{AreOddMultiples}
 use Rattle.edwards.proofs.Reached.{Reaches}
 use Rattle.edwards.proofs.public.by_digits.Given as goal

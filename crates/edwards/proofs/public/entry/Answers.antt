@@ -1,7 +1,7 @@
 use Rattle.std.proofs.Common.{◌≡◌, ◌+◌, ◌-◌, ◌*◌, ◌/◌, get_or, arith, subst}
 use Rattle.ark_groups.specs.Group.{times}
 use Rattle.ark_groups.specs.Words.{number}
-use Rattle.edwards_numbers.specs.Laws.Points.{Point, points}
+use Rattle.edwards.specs.Laws.Points.{Point, points}
 use Rattle.edwards.specs.Cached.{IsCached}
 use Rattle.edwards.proofs.Balance.{multiple_low, multiple_high}
 use Rattle.edwards.proofs.public.entry.Goals as goal

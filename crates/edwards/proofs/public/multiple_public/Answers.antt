@@ -2,7 +2,7 @@ use Rattle.std.proofs.Common.{◌∙◌, ap, subst}
 use Rattle.ark_groups.specs.Group.{times}
 use Rattle.ark_groups.specs.Words.{number}
 use Rattle.ark_groups.proofs.Multiples.{right_identity}
-use Rattle.edwards_numbers.specs.Laws.Points.{Point, points, points_laws, at-times}
+use Rattle.edwards.specs.Laws.Points.{Point, points, points_laws, at-times}
 use Rattle.edwards.specs.Extended.{Stands}
 use Rattle.edwards.proofs.public.multiple_public.Goals as goal
 

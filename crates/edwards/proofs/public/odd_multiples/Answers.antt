@@ -2,7 +2,7 @@ use Rattle.std.proofs.Common.{◌≡◌, ◌+◌, ◌-◌, ◌*◌, replicate, r
 use Rattle.std.proofs.lemmas.List.{length-set}
 use Rattle.ark_groups.specs.Group.{times}
 use Rattle.ark_groups.specs.Words.{number}
-use Rattle.edwards_numbers.specs.Laws.Points.{Point, points}
+use Rattle.edwards.specs.Laws.Points.{Point, points}
 use Rattle.edwards.specs.Cached.{IsCached}
 use Rattle.edwards.specs.Extended.{Stands}
 use Rattle.edwards.proofs.OddMultiples.{once, two_more, first_odd, next_odd}

@@ -1,8 +1,8 @@
 use Rattle.std.proofs.Common.{◌≡◌, ℕ, ◌*◌, ◌-◌, ◌%◌, length}
 use Rattle.ark_groups.specs.Group.{times}
 use Rattle.ark_groups.specs.Words.{number}
-use Rattle.edwards_numbers.specs.Curves.{IsComplete}
-use Rattle.edwards_numbers.specs.Laws.Points.{Point, points}
+use Rattle.edwards.specs.Curves.{IsComplete}
+use Rattle.edwards.specs.Laws.Points.{Point, points}
 use Rattle.edwards.specs.Cached.{AreOddMultiples}
 use Rattle.edwards.specs.Extended.{Stands}
 use Rattle.edwards.specs.Values.{value}

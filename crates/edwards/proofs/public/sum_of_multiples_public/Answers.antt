@@ -1,7 +1,7 @@
 use Rattle.std.proofs.Common.{ap₂, subst}
 use Rattle.ark_groups.specs.Words.{number}
-use Rattle.edwards_numbers.specs.Edwards.{sum}
-use Rattle.edwards_numbers.specs.Laws.Points.{Point, at-times}
+use Rattle.edwards.specs.Edwards.{sum}
+use Rattle.edwards.specs.Laws.Points.{Point, at-times}
 use Rattle.edwards.specs.Extended.{Stands}
 use Rattle.edwards.proofs.public.sum_of_multiples_public.Goals as goal
 

@@ -5,7 +5,7 @@ use Rattle.ark_wide_fields.specs.Laws.Fp256.{wide_below}
 use Rattle.jubjub.specs.Jubjub.{p}
 use Rattle.jubjub.specs.Values.{value}
 use Rattle.jubjub.specs.Laws.Modulus.{has_inverses}
-use Rattle.edwards_numbers.specs.Laws.Quotients.{product_some}
+use Rattle.edwards.specs.Laws.Quotients.{product_some}
 use Rattle.jubjub.proofs.decoding.first_over.Goals as goal
 
 pub returns-clause-some : goal.returns-clause-some

@@ -4,7 +4,7 @@ use Rattle.paxidore_c.proofs.Hashed.{handed-codes, handed-none, said-of-seen}
 use Rattle.paxidore_calls.proofs.Written.{gives-itself, handed, seen}
 use Rattle.paxidore_c.specs.Poseidon.{IsCircomTable}
 use Rattle.paxidore_calls.specs.declared.refused.Refused.TheVariants.{Other}
-use Rattle.circom_bytes.specs.Hash.{IsCircomRefused}
+use Rattle.circom.specs.Hash.{IsCircomRefused}
 use Rattle.paxidore_c.proofs.poseidon.paxidore_poseidon_table.Goals as goal
 
 pub returns-clause-handed : goal.returns-clause-handed

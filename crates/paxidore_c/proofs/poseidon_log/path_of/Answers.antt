@@ -1,7 +1,7 @@
 use Rattle.std.proofs.Common.{[], length, inr, refl}
 use Rattle.std.proofs.lemmas.Bool.{le-ltb, lt-ltb}
-use Rattle.circom_bytes.specs.Hash.{node_outcome}
-use Rattle.circom_logs.specs.Nodes.{refusal_error}
+use Rattle.circom.specs.Hash.{node_outcome}
+use Rattle.circom.specs.Nodes.{refusal_error}
 use Rattle.merkle_log.specs.Edge.{all_of}
 use Rattle.merkle_log.specs.Log.{inclusion_path}
 use Rattle.paxidore_c.specs.PoseidonLog.{elements_given}

@@ -1,6 +1,6 @@
 use Rattle.std.proofs.Common.{[], ap, ◌∙◌}
 use Rattle.ark_base.specs.Outcome.{◌>>=◌}
-use Rattle.circom_logs.specs.Nodes.{refusal_error}
+use Rattle.circom.specs.Nodes.{refusal_error}
 use Rattle.paxidore_calls.specs.Answer.{refusing}
 use Rattle.paxidore_c.specs.PoseidonLog.{elements_given, root_of_elements}
 use Rattle.paxidore_c.proofs.TwoInputs.{library-refused, refused-first, refused-next, table-refused, two-given, two-refused}

@@ -1,9 +1,9 @@
 use Rattle.std.proofs.Common.{◌≡◌, refl, subst, ◌∙◌, arith}
 use Rattle.std.proofs.lemmas.Bool.{lt-ltb}
 use Rattle.ark_base.specs.Outcome.{Answers}
-use Rattle.circom_bytes.specs.Hash.{node_outcome}
-use Rattle.circom_logs.specs.Nodes.{element_hashes}
-use Rattle.circom_logs.proofs.Outcomes.{table-node}
+use Rattle.circom.specs.Hash.{node_outcome}
+use Rattle.circom.specs.Nodes.{element_hashes}
+use Rattle.circom.proofs.Outcomes.{table-node}
 use Rattle.merkle_log.specs.Log.{NodeHash}
 use Rattle.merkle_log.specs.Received.{ShowsLogLeaf, inclusion_length, received_inclusion}
 use Rattle.paxidore_calls.specs.Answer.{refusing}

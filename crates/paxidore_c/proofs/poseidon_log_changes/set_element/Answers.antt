@@ -1,7 +1,7 @@
 use Rattle.std.proofs.Common.{◌≡◌, [], length, Bool, true, false, nat_lt, Result, Ok, Err, refl, sym, ap, ◌∙◌, arith}
 use Rattle.std.proofs.lemmas.Bool.{le-ltb, lt-ltb}
 use Rattle.ark_paths.specs.Pair.{Digest}
-use Rattle.circom_bytes.specs.Hash.{is_element}
+use Rattle.circom.specs.Hash.{is_element}
 use Rattle.merkle_log.specs.Kept.{has_front}
 use Rattle.paxidore_calls.specs.Answer.{done_code, only_if}
 use Rattle.paxidore_calls.specs.declared.refused.Refused.{Refused}

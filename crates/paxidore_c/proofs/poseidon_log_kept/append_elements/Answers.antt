@@ -2,7 +2,7 @@ use Rattle.std.proofs.Common.{◌≡◌, List, [], ◌++◌, length, take, subst
 use Rattle.std.specs.List.{list_all}
 use Rattle.std.proofs.lemmas.Bool.{le-ltb, lt-ltb}
 use Rattle.ark_paths.specs.Pair.{Digest}
-use Rattle.circom_bytes.specs.Hash.{is_element, node_outcome}
+use Rattle.circom.specs.Hash.{is_element, node_outcome}
 use Rattle.merkle_log.specs.Kept.{KeepsBy}
 use Rattle.merkle_log.specs.Stored.{stored_count}
 use Rattle.paxidore_calls.specs.KeptLog.{more_count}

@@ -2,8 +2,8 @@ use Rattle.std.proofs.Common.{◌≡◌, [], true, false, nat_lt, take, Ok, inr,
 use Rattle.std.proofs.lemmas.Bool.{le-ltb, lt-ltb}
 use Rattle.std.specs.List.{flat_map}
 use Rattle.ark_base.specs.Digits.{itself}
-use Rattle.circom_bytes.specs.Hash.{node_outcome}
-use Rattle.circom_logs.specs.Nodes.{refusal_error}
+use Rattle.circom.specs.Hash.{node_outcome}
+use Rattle.circom.specs.Nodes.{refusal_error}
 use Rattle.merkle_log.specs.Edge.{all_of}
 use Rattle.merkle_log.specs.Log.{inclusion_path}
 use Rattle.paxidore_c.specs.PoseidonLog.{kept_path_given}

@@ -1,6 +1,6 @@
 use Rattle.std.proofs.Common.{◌≡◌, [], true, false, nat_lt, Ok, inr, refl, ap, arith}
 use Rattle.std.proofs.lemmas.Bool.{le-ltb, lt-ltb}
-use Rattle.circom_logs.specs.Nodes.{refusal_error}
+use Rattle.circom.specs.Nodes.{refusal_error}
 use Rattle.paxidore_calls.specs.Answer.{refusing}
 use Rattle.paxidore_c.specs.PoseidonLog.{kept_root_given}
 use Rattle.paxidore_calls.specs.declared.refused.Refused.TheVariants.{Size}

@@ -1,6 +1,6 @@
 use Rattle.std.proofs.Common.{sym, subst, ◌∙◌, ap, lit<}
 use Rattle.ark_groups.specs.Group.{times}
-use Rattle.edwards_numbers.specs.Edwards.{Coordinates, neutral, edwards}
+use Rattle.edwards.specs.Edwards.{Coordinates, neutral, edwards}
 use Rattle.edwards.specs.Extended.{Stands}
 use Rattle.edwards.proofs.Sums.{multiple_on_curve}
 use Rattle.baby_jubjub.specs.BabyJubjub.{p, d, order, curve, scaled}

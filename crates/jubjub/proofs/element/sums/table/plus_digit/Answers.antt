@@ -1,5 +1,5 @@
 use Rattle.std.proofs.Common.{◌≡◌, ◌*◌, ◌%◌, sym, ap, ◌∙◌, subst}
-use Rattle.edwards_numbers.specs.Laws.CurveLaws.{same_coordinates}
+use Rattle.edwards.specs.Laws.CurveLaws.{same_coordinates}
 use Rattle.jubjub.specs.Edwards.{Coordinates, sum}
 use Rattle.jubjub.specs.Jubjub.{p, d, IsOnJubjub}
 use Rattle.jubjub.specs.Elements.{coordinates, jubjub}

@@ -1,0 +1,9 @@
+pub mod Reading
+pub mod Frames
+pub mod Hashing
+pub mod Tables
+pub mod Outcomes
+pub mod Fronts
+pub mod Lists
+pub mod Closed
+pub mod Changing

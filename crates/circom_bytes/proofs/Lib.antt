@@ -1,4 +1,0 @@
-pub mod Reading
-pub mod Frames
-pub mod Hashing
-pub mod Tables

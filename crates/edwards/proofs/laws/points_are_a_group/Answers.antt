@@ -1,0 +1,18 @@
+use Rattle.edwards.specs.Laws.Completeness.{has_inverses, complete}
+use Rattle.edwards.specs.Laws.CurveLaws.{sum_closed, neutral_on_curve, negative_closed}
+use Rattle.edwards.specs.Laws.CurveLaws.{sum_comm, sum_neutral, sum_negative, sum_assoc}
+use Rattle.edwards.proofs.laws.points_are_a_group.Goals as goal
+
+pub returns : goal.returns
+returns c p d k =
+    let f = has_inverses p d k in
+    let all = complete p d k in
+    record {
+      identity_in = neutral_on_curve p d f all;
+      plus_in = sum_closed p d f all;
+      opposite_in = negative_closed p d f all;
+      assoc = sum_assoc p d f all;
+      comm = λ a b on_a on_b. sum_comm p d f all a b;
+      left_identity = sum_neutral p d f all;
+      left_opposite = sum_negative p d f all;
+    }

@@ -1,9 +1,0 @@
-use Rattle.edwards_numbers.specs.Laws.Completeness.{has_inverses, complete}
-use Rattle.edwards_numbers.specs.Laws.CurveLaws.{above_some, below_some}
-use Rattle.edwards_numbers.proofs.sums_are_complete.Goals as goal
-
-pub returns : goal.returns
-returns c p d k a b on_a on_b =
-    let f = has_inverses p d k in
-    let all = complete p d k in
-    (above_some p d f all a b on_a on_b, below_some p d f all a b on_a on_b)
