@@ -5,10 +5,10 @@ ghost use Rattle.std.specs.List.{list_all};
 ghost use Rattle.circom.specs.Elements.{element_bytes, element_in, elements_of_bytes, ordered};
 ghost use Rattle.circom.specs.Hash.{is_element};
 
+use crate::table::is_element;
 use ark_base::error::{Error, SerializationError};
 use ark_groups::ff::Field;
 use ark_wide_fields::{is_below, words_of};
-use crate::table::is_element;
 
 /// The order of the 32 bytes of an element.
 #[derive(Clone, Copy, Debug, PartialEq, Eq)]

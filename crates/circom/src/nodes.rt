@@ -6,9 +6,9 @@ ghost use Rattle.circom.specs.Decided.{element-decided, table-decided};
 ghost use Rattle.circom.specs.Nodes.{element_hashes, no_element_error};
 
 use crate::refusal::NoElement;
+use crate::table::{CircomTable, is_element};
 use ark_base::error::{Error, SerializationError};
 use ark_paths::hasher::TreeHasher;
-use crate::table::{CircomTable, is_element};
 use merkle_log::nodes::NodeHasher;
 use std::alloc::Global;
 
