@@ -2,7 +2,7 @@
  * leaf or index. None is accepted, each has an answer that the header lists, and none asks for more memory than there is. A proof
  * ends where the memory ends that may be read. It prints how many checks passed, and ends with 1 where one failed. */
 #define _DEFAULT_SOURCE
-#include "paxidore.h"
+#include "paxidore_multi_inclusion.h"
 
 #include <stdio.h>
 #include <stdlib.h>
@@ -12,8 +12,8 @@
 
 enum { MOST = 512, GOOD = 1200, SHOWN_MOST = 6, PROOF_MOST = 4096, ROOM = 16384 };
 
-/* What can be asked: of both hashings a path and a multi-proof, of a log inclusion and consistency. */
-enum kind { SHA256_PATH, SHA256_MULTI, RFC6962_PATH, RFC6962_MULTI, INCLUSION, CONSISTENCY, KINDS };
+/* What can be asked: of both hashings a path and a multi-proof, of a log inclusion, of one entry or of several, and consistency. */
+enum kind { SHA256_PATH, SHA256_MULTI, RFC6962_PATH, RFC6962_MULTI, INCLUSION, MULTI_INCLUSION, CONSISTENCY, KINDS };
 
 struct proof {
     enum kind kind;
@@ -80,7 +80,7 @@ static void make(struct proof *p) {
     const uint8_t *tree = trees[rfc][height];
     p->size = p->kind < INCLUSION ? (size_t)1 << height : 1 + below(MOST);
     digests = PAXIDORE_TREE_DIGESTS(p->size);
-    p->count = p->kind == SHA256_MULTI || p->kind == RFC6962_MULTI ? draw_indexes(p->indexes, p->size) : 1;
+    p->count = p->kind == SHA256_MULTI || p->kind == RFC6962_MULTI || p->kind == MULTI_INCLUSION ? draw_indexes(p->indexes, p->size) : 1;
     if (p->count == 1)
         p->indexes[0] = below(p->size);
     for (size_t i = 0; i < p->count; i++)
@@ -103,6 +103,10 @@ static void make(struct proof *p) {
     case INCLUSION:
         must(paxidore_log_inclusion(p->bytes, PROOF_MOST, &p->len, kept, 2 * MOST, p->size, p->indexes[0]) == PAXIDORE_OK,
              "an inclusion proof");
+        break;
+    case MULTI_INCLUSION:
+        must(paxidore_log_multi_inclusion(p->bytes, PROOF_MOST, &p->len, kept, 2 * MOST, p->size, p->indexes, p->count) == PAXIDORE_OK,
+             "a proof of several entries");
         break;
     default:
         p->old_size = 1 + below(p->size);
@@ -127,6 +131,9 @@ static int32_t ask(const struct proof *p, const uint8_t *bytes, size_t len) {
         return paxidore_multi_verify(PAXIDORE_RFC6962, p->root, p->size, p->indexes, p->count, p->leaves, 8 * p->count, lengths, p->count,
                                              bytes, len);
     case INCLUSION: return paxidore_log_verify_inclusion(p->root, p->size, p->indexes[0], p->leaves, 8, bytes, len);
+    case MULTI_INCLUSION:
+        return paxidore_log_verify_multi_inclusion(p->root, p->size, p->indexes, p->count, p->leaves, 8 * p->count, lengths, p->count,
+                                                   bytes, len);
     default: return paxidore_log_verify_consistency(p->old_root, p->old_size, p->root, p->size, bytes, len);
     }
 }

@@ -1,6 +1,6 @@
 /* Logs that are kept in the caller's memory, against the definitions of RFC 6962 (section 2.1). It prints how many checks passed, and
  * ends with 1 where one failed. */
-#include "paxidore.h"
+#include "paxidore_multi_inclusion.h"
 
 #include <stdio.h>
 #include <stdlib.h>
@@ -233,6 +233,99 @@ static void roots_and_proofs(void) {
     CHECK(paxidore_log_consistency(proof, sizeof proof, &len, stored, STORED, 1, SIZE_MAX) == PAXIDORE_E_SIZE);
 }
 
+/* The roots of the largest subtrees of D[first:last] that hold none of some rising indexes, and how many there are. */
+static size_t around(uint8_t *proof, const size_t *indexes, size_t count, size_t first, size_t last) {
+    if (!count) {
+        mth(proof, first, last);
+        return 1;
+    }
+    if (last - first == 1)
+        return 0;
+    size_t middle = first + split(last - first), before = 0, made;
+    while (before < count && indexes[before] < middle)
+        before++;
+    made = around(proof, indexes, before, first, middle);
+    return made + around(proof + 32 * made, indexes + before, count - before, middle, last);
+}
+
+/* One proof of the indexes whose bits are set. */
+static void one_proof_of(size_t size, uint64_t set) {
+    uint8_t root[32], proof[32 * (MOST + 1)], right[32 * (MOST + 1)], given[MOST * 130];
+    size_t indexes[MOST], given_lengths[MOST], count = 0, given_len = 0, len = 7, kept_len = paxidore_log_kept(size);
+    for (size_t index = 0; index < size; index++)
+        if (set >> index % 64 & 1) {
+            if (lengths[index])
+                memcpy(given + given_len, entries + starts[index], lengths[index]);
+            given_len += given_lengths[count] = lengths[index];
+            indexes[count++] = index;
+        }
+    if (!count)
+        return;
+    size_t needed = 32 * around(right, indexes, count, 0, size);
+    mth(root, 0, size);
+    memset(proof, 0xaa, sizeof proof);
+    CHECK(paxidore_log_multi_inclusion(proof, needed, &len, stored, kept_len - 1, size, indexes, count) == PAXIDORE_E_SIZE);
+    CHECK(paxidore_log_multi_inclusion(proof, needed, &len, stored, kept_len, size, indexes, 0) == PAXIDORE_E_INDEX && len == 7);
+    if (needed)
+        CHECK(paxidore_log_multi_inclusion(proof, needed - 1, &len, stored, kept_len, size, indexes, count) == PAXIDORE_E_ROOM &&
+              len == needed && is_filled(proof, sizeof proof, 0xaa));
+    CHECK(paxidore_log_multi_inclusion(proof, needed, &len, stored, kept_len, size, indexes, count) == PAXIDORE_OK);
+    CHECK(len == needed && memcmp(proof, right, needed) == 0 && is_filled(proof + needed, sizeof proof - needed, 0xaa));
+#define SHOWN(root, size, count) \
+    paxidore_log_verify_multi_inclusion(root, size, indexes, count, given, given_len, given_lengths, count, proof, len)
+    CHECK(SHOWN(root, size, count) == PAXIDORE_OK);
+    root[len % 32] ^= 1;
+    CHECK(SHOWN(root, size, count) == PAXIDORE_NOT_SHOWN);
+    root[len % 32] ^= 1;
+    CHECK(SHOWN(root, indexes[count - 1], count) == PAXIDORE_E_INDEX && SHOWN(root, 0, count) == PAXIDORE_E_INDEX);
+    CHECK(paxidore_log_verify_multi_inclusion(root, size, indexes, count, given, given_len, given_lengths, count - 1, proof, len) ==
+          PAXIDORE_E_COUNT);
+    CHECK(paxidore_log_verify_multi_inclusion(root, size, indexes, 0, given, 0, given_lengths, 0, proof, len) == PAXIDORE_E_INDEX);
+    len++;
+    CHECK(SHOWN(root, size, count) == PAXIDORE_E_INVALID);
+    len--;
+    given_len++;
+    CHECK(SHOWN(root, size, count) == PAXIDORE_E_LENGTHS);
+    given_len--;
+    if (needed) {
+        len--;
+        CHECK(SHOWN(root, size, count) == PAXIDORE_E_TRUNCATED);
+        len++;
+        proof[needed / 2] ^= 4;
+        CHECK(SHOWN(root, size, count) == PAXIDORE_NOT_SHOWN);
+        proof[needed / 2] ^= 4;
+    }
+    if (given_len) {
+        given[given_len / 2] ^= 32;
+        CHECK(SHOWN(root, size, count) == PAXIDORE_NOT_SHOWN);
+        given[given_len / 2] ^= 32;
+    }
+    if (count > 1) {
+        indexes[1] = indexes[0];
+        CHECK(SHOWN(root, size, count) == PAXIDORE_E_INDEX);
+        len = 7;
+        CHECK(paxidore_log_multi_inclusion(proof, sizeof proof, &len, stored, STORED, size, indexes, count) == PAXIDORE_E_INDEX);
+        CHECK(len == 7);
+    }
+#undef SHOWN
+}
+
+static void multi_proofs(void) {
+    uint64_t state = 9162;
+    for (size_t size = 1; size <= 9; size++)
+        for (uint64_t set = 1; set < (uint64_t)1 << size; set++)
+            one_proof_of(size, set);
+    for (size_t size = 10; size <= MOST; size++)
+        for (int turn = 0; turn < 12; turn++) {
+            uint64_t set = 0;
+            for (int words = 0; words <= turn % 4; words++) {
+                state ^= state << 13, state ^= state >> 7, state ^= state << 17;
+                set = words ? set & state : state;
+            }
+            one_proof_of(size, set);
+        }
+}
+
 static void damages(void) {
     uint8_t kept[32 * STORED], root[32], proof[PAXIDORE_LOG_PROOFBYTES_MAX];
     for (size_t size = 0; size <= MOST; size++) {
@@ -251,6 +344,7 @@ static void damages(void) {
         for (size_t index = 0; index < size; index++) {
             CHECK(paxidore_log_inclusion(proof, sizeof proof, &len, kept, count, size, index) == PAXIDORE_OK && len % 32 == 0);
             CHECK(paxidore_log_consistency(proof, sizeof proof, &len, kept, count, index + 1, size) == PAXIDORE_OK);
+            CHECK(paxidore_log_multi_inclusion(proof, sizeof proof, &len, kept, count, size, &index, 1) == PAXIDORE_OK);
         }
     }
 }
@@ -267,6 +361,7 @@ int main(void) {
     counts();
     appends();
     roots_and_proofs();
+    multi_proofs();
     damages();
     printf("%d passed, %d failed\n", passed, failed);
     return failed != 0;

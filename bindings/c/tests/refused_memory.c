@@ -1,6 +1,7 @@
 /* Each request for memory refused in turn: the answer is PAXIDORE_E_MEMORY, nothing is lost and no buffer is touched. A million
  * calls leave nothing behind. Linked with -Wl,--wrap=malloc,--wrap=realloc,--wrap=free. */
 #include "paxidore_join.h"
+#include "paxidore_multi_inclusion.h"
 #include "paxidore_leanimt.h"
 
 #include <stdio.h>
@@ -59,6 +60,10 @@ static uint8_t begun[PAXIDORE_TRANSCRIPTBYTES(1, 1, 8)], to_state[sizeof begun],
 static uint8_t map_tree[131] = {1, 0}, map_root[32], map_proof[64], absent_proof[128], other_key[32] = {1}, to_rows[3 * PAXIDORE_MAP_ROWBYTES];
 static size_t map_proof_len, absent_len;
 
+/* the one proof of three entries of the log */
+static uint8_t log_proof[32 * 8];
+static size_t log_proof_len;
+
 /* four elements, and the log of them in the hash of two */
 static uint8_t elements[4 * 32], element_root[32], element_path[64], element_log[7 * 32], to_log[7 * 32];
 static size_t element_path_len;
@@ -100,7 +105,10 @@ static int32_t call(int which) {
     case 26: return paxidore_poseidon_log_append(to_more, 8, &to_len, table, table_len, element_log, 3, 2, elements + 64, 2);
     case 27: return paxidore_poseidon_log_root(to_root, table, table_len, element_log, 7, 4);
     case 28: return paxidore_poseidon_log_inclusion(to_path, sizeof to_path, &to_len, table, table_len, element_log, 7, 4, 2);
-    default: return paxidore_poseidon_log_set(to_log, 7, table, table_len, 4, 2, ZEROS);
+    case 29: return paxidore_poseidon_log_set(to_log, 7, table, table_len, 4, 2, ZEROS);
+    case 30: return paxidore_log_multi_inclusion(to_proof, sizeof to_proof, &to_len, kept, 15, 8, INDEXES, 3);
+    default:
+        return paxidore_log_verify_multi_inclusion(root, 8, INDEXES, 3, (const uint8_t *)"bbbeeefff", 9, SHOWN, 3, log_proof, log_proof_len);
     }
 }
 
@@ -127,6 +135,8 @@ int main(void) {
     size_t kept_len;
     if (paxidore_log_append(kept, 15, &kept_len, NULL, 0, 0, LEAVES, 24, LENGTHS, 8) != PAXIDORE_OK || kept_len != 15)
         failed++;
+    if (paxidore_log_multi_inclusion(log_proof, sizeof log_proof, &log_proof_len, kept, 15, 8, INDEXES, 3) != PAXIDORE_OK)
+        failed++;
     if (paxidore_tree_build(tree, 15, PAXIDORE_RFC6962, LEAVES, 24, LENGTHS, 8) != PAXIDORE_OK)
         failed++;
     if (paxidore_transcript_init(begun, sizeof begun, &to_len, 1, PARAMETER_BYTES, sizeof PARAMETERS) != PAXIDORE_OK ||
@@ -145,7 +155,7 @@ int main(void) {
         paxidore_poseidon_path(element_path, sizeof element_path, &element_path_len, table, table_len, elements, 4, 2) != PAXIDORE_OK ||
         paxidore_poseidon_log_append(element_log, 7, &to_len, table, table_len, NULL, 0, 0, elements, 4) != PAXIDORE_OK)
         failed++;
-    for (int which = 0; which < 30; which++) {
+    for (int which = 0; which < 32; which++) {
         memcpy(to_state, begun, sizeof begun);
         memcpy(to_log, element_log, sizeof to_log);
         calls = 0;

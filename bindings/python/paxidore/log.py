@@ -2,7 +2,7 @@
 import ctypes
 import itertools
 import os
-from typing import Any, Callable, Iterable, Optional, Tuple
+from typing import Any, Callable, Iterable, Optional, Sequence, Tuple
 
 from ._library import (
     DIGEST_BYTES,
@@ -14,10 +14,12 @@ from ._library import (
     _Given,
     _Leaves,
     _leaves,
+    _path_digests,
     _refusal,
     _size,
     _sizes,
     _word,
+    _words,
 )
 from ._log_file import _File
 from ._turn import Turn
@@ -29,6 +31,7 @@ _log_root = _call("log_root", ctypes.c_int32, ctypes.c_void_p, ctypes.c_void_p, 
 _log_path = (ctypes.c_void_p, _size, _sizes, ctypes.c_void_p, _size, _size, _size)
 _log_inclusion = _call("log_inclusion", ctypes.c_int32, *_log_path)
 _log_consistency = _call("log_consistency", ctypes.c_int32, *_log_path)
+_log_multi_inclusion = _call("log_multi_inclusion", ctypes.c_int32, *_log_path[:-1], _sizes, _size)
 _log_check = _call("log_check", ctypes.c_int32, ctypes.c_void_p, _size, _size)
 
 
@@ -88,6 +91,10 @@ class _Memory:
         answer: int = _log_consistency(proof, len(proof), ctypes.byref(count), self.lent(), self.count(), old_size, size)
         return answer
 
+    def multi_inclusion(self, proof: "ctypes.Array[ctypes.c_char]", count: _size, size: int, *given: Any) -> int:
+        answer: int = _log_multi_inclusion(proof, len(proof), ctypes.byref(count), self.lent(), self.count(), size, *given)
+        return answer
+
     def check(self) -> int:
         answer: int = _log_check(self.lent(), self.count(), self.own)
         return answer
@@ -118,6 +125,7 @@ class Log:
 
     _inclusion = _call("log_verify_inclusion", ctypes.c_int32, _bytes, _size, _size, _bytes, _size, _bytes, _size)
     _inclusion_digest = _call("log_verify_inclusion_digest", ctypes.c_int32, _bytes, _size, _size, _bytes, _bytes, _size)
+    _multi_inclusion = _call("log_verify_multi_inclusion", ctypes.c_int32, _bytes, _size, _sizes, _size, *_leaves, _bytes, _size)
     _consistency = _call("log_verify_consistency", ctypes.c_int32, _bytes, _size, _bytes, _size, _bytes, _size)
 
     def __init__(self) -> None:
@@ -256,6 +264,25 @@ class Log:
         kept = self._open()
         return kept.inclusion(path, count, self._of(kept, size), index)
 
+    def multi_inclusion(self, indexes: Sequence[int], *, size: "Optional[int]" = None) -> bytes:
+        """The bytes of the one proof of some rising indexes in the first ``size`` entries of a log in memory.
+
+        Raises ``SizeError`` for more than there are, ``IndexBeyondSize``, also for no index and for one that does not rise,
+        ``OutOfMemory``; ``ValueError`` for a log in a file.
+        """
+        return self._turn.run(self._multi, _words("an index", indexes), size)
+
+    def _multi(self, given: "Tuple[Any, int]", size: "Optional[int]") -> bytes:
+        kept, count = self._open(), _size()
+        if not isinstance(kept, _Memory):
+            raise ValueError("a log in a file has no proof of several entries")
+        most = min(self._of(kept, size), kept.size())
+        proof = ctypes.create_string_buffer(_path_digests(most) * min(given[1], most))
+        answer = kept.multi_inclusion(proof, count, self._of(kept, size), *given)
+        if answer != 0:
+            raise _refusal(answer)
+        return ctypes.string_at(proof, count.value)
+
     def consistency(self, old_size: int, size: "Optional[int]" = None) -> bytes:
         """The bytes of the proof that the first ``size`` entries continue the first ``old_size`` ones.
 
@@ -301,6 +328,22 @@ class Log:
         _digest(root), _exact("entry", entry), _exact("path", path)
         place = _word("size", size), _word("index", index)
         answer: int = Log._inclusion(root, *place, entry, len(entry), path, len(path))
+        if answer < 0:
+            raise _refusal(answer)
+        return answer == 0
+
+    @staticmethod
+    def verify_multi_inclusion(
+        root: bytes, size: int, indexes: Sequence[int], entries: _Leaves, proof: bytes, *, length: "Optional[int]" = None
+    ) -> bool:
+        """Whether one proof shows that each entry stands at its index of the log of ``size`` entries with this root. The indexes rise.
+
+        Raises ``CountError`` for another count of entries, ``IndexBeyondSize``, also for no index and for one that does not rise,
+        ``TruncatedProof``, ``InvalidProof``, ``OutOfMemory``. ``length`` is as in ``append``.
+        """
+        _digest(root), _exact("proof", proof)
+        given = *_words("an index", indexes), *_Given(entries, length).all()
+        answer: int = Log._multi_inclusion(root, _word("size", size), *given, proof, len(proof))
         if answer < 0:
             raise _refusal(answer)
         return answer == 0

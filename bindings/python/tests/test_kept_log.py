@@ -7,7 +7,7 @@ import unittest
 
 import paxidore
 from paxidore import Log
-from log_model import all_roots, drawn, DRAWS, entry_digests, mth, proofs_are, sha, stored
+from log_model import all_roots, drawn, DRAWS, entry_digests, largest_below, mth, proofs_are, sha, stored
 
 
 class InMemory(unittest.TestCase):
@@ -126,6 +126,44 @@ class InMemory(unittest.TestCase):
         log.close()
         self.assertRaises(ValueError, log.root)
         self.assertRaises(ValueError, len, log)
+
+    def test_several_entries(self):
+        entries = drawn(70)
+        digests = entry_digests(entries)
+
+        def around(indexes, first, last):
+            if not indexes:
+                return [mth(digests[first:last])]
+            if last - first == 1:
+                return []
+            middle = first + largest_below(last - first)
+            left = [index for index in indexes if index < middle]
+            return around(left, first, middle) + around(indexes[len(left) :], middle, last)
+
+        log = Log()
+        log.append(entries)
+        for size in range(1, 71):
+            for count in sorted({1, 2, size // 2, size} - {0}):
+                indexes = sorted(DRAWS.sample(range(size), min(count, size)))
+                shown, root = log.multi_inclusion(indexes, size=size), mth(digests[:size])
+                self.assertEqual(shown, b"".join(around(indexes, 0, size)))
+                given = [entries[index] for index in indexes]
+                self.assertTrue(Log.verify_multi_inclusion(root, size, indexes, given, shown))
+                self.assertFalse(Log.verify_multi_inclusion(root, size, indexes, given[:-1] + [given[-1] + b"a"], shown))
+                self.assertRaises(paxidore.CountError, Log.verify_multi_inclusion, root, size, indexes, given[1:], shown)
+                self.assertRaises(paxidore.InvalidProof, Log.verify_multi_inclusion, root, size, indexes, given, shown + b"a")
+        for indexes in ([], [1, 1], [2, 1], [70], range(71)):
+            self.assertRaises(paxidore.IndexBeyondSize, log.multi_inclusion, indexes)
+        self.assertRaises(paxidore.SizeError, log.multi_inclusion, [0], size=71)
+        self.assertRaises(TypeError, log.multi_inclusion, [0.5])
+        words = b"".join(b"%08d" % i for i in range(9))
+        of_words = Log()
+        of_words.append(words, length=8)
+        shown = of_words.multi_inclusion([3, 4, 8])
+        self.assertTrue(Log.verify_multi_inclusion(of_words.root(), 9, [3, 4, 8], words[24:40] + words[64:], shown, length=8))
+        with tempfile.TemporaryDirectory() as folder, Log.open(folder + "/log") as kept:
+            kept.append([b"a", b"b"])
+            self.assertRaises(ValueError, kept.multi_inclusion, [0, 1])
 
     def test_joins(self):
         entries = drawn(70)

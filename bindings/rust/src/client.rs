@@ -56,6 +56,51 @@ impl Log {
         })
     }
 
+    /// Whether one proof shows that several entries, which stand one behind the other in `bytes`, stand at as many rising indexes of
+    /// the log of `size` entries with this root. It copies nothing.
+    ///
+    /// Refusals: `Count`; `Index`, also of no index and of one that does not rise; `Lengths` where the lengths do not sum to that of
+    /// the bytes; `Truncated`, `Invalid`, `Memory`.
+    pub fn verify_multi_inclusion_flat(
+        root: &Digest,
+        size: usize,
+        indexes: &[usize],
+        bytes: &[u8],
+        lengths: &[usize],
+        proof: &[u8],
+    ) -> Result<bool, Refused> {
+        // SAFETY: as in `Trees::verify`.
+        verdict(unsafe {
+            sys::paxidore_log_verify_multi_inclusion(
+                root.as_ptr(),
+                size,
+                indexes.as_ptr(),
+                indexes.len(),
+                bytes.as_ptr(),
+                bytes.len(),
+                lengths.as_ptr(),
+                lengths.len(),
+                proof.as_ptr(),
+                proof.len(),
+            )
+        })
+    }
+
+    /// Whether one proof shows that each entry stands at its index. The indexes rise, and there are as many entries.
+    ///
+    /// Refusals: those of `verify_multi_inclusion_flat` but `Lengths`.
+    #[cfg(feature = "std")]
+    pub fn verify_multi_inclusion<E: AsRef<[u8]>>(
+        root: &Digest,
+        size: usize,
+        indexes: &[usize],
+        entries: &[E],
+        proof: &[u8],
+    ) -> Result<bool, Refused> {
+        let crate::Flat { bytes, lengths } = crate::Flat::of(entries);
+        Log::verify_multi_inclusion_flat(root, size, indexes, &bytes, &lengths, proof)
+    }
+
     /// Whether the proof shows that the log with the new root and size continues the one with the old root and size.
     ///
     /// Refusals: `Size` of the old size 0 and of one above the new size, `Truncated`, `Invalid`, `Memory`.

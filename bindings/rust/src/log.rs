@@ -1,7 +1,7 @@
 //! Logs of any size, for whoever keeps one.
 
 use crate::log_file::LogFile;
-use crate::{sys, verdict, written, Digest, Flat, Refused};
+use crate::{path_digests, sys, verdict, written, Digest, Flat, Refused};
 use std::error::Error;
 use std::fmt;
 use std::io;
@@ -244,6 +244,32 @@ impl Log {
             )
         })?;
         Ok(path)
+    }
+
+    /// The bytes of the one proof of some rising indexes in the first `size` entries of a log in memory.
+    ///
+    /// Refusals: `Size`; `Index`, also of no index and of one that does not rise; `Memory`. `LogError::Io` for a log in a file.
+    pub fn multi_inclusion(&self, size: usize, indexes: &[usize]) -> Result<Vec<u8>, LogError> {
+        let Kept::Memory(stored) = &self.kept else {
+            let why = "a log in a file has no proof of several entries";
+            return Err(io::Error::new(io::ErrorKind::Unsupported, why).into());
+        };
+        let most = size.min(self.size);
+        let room = indexes.len().min(most) * path_digests(most);
+        // SAFETY: as in `Trees::path`.
+        let proof = written(room, |proof, room, count| unsafe {
+            sys::paxidore_log_multi_inclusion(
+                proof,
+                room,
+                count,
+                stored.as_ptr().cast(),
+                stored.len(),
+                size,
+                indexes.as_ptr(),
+                indexes.len(),
+            )
+        })?;
+        Ok(proof)
     }
 
     /// The bytes of the proof that the first `size` entries continue the first `old_size` ones.

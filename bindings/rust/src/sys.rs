@@ -413,6 +413,16 @@ extern "C" {
         old_size: usize,
         size: usize,
     ) -> i32;
+    pub fn paxidore_log_multi_inclusion(
+        proof: *mut u8,
+        proof_room: usize,
+        proof_len: *mut usize,
+        kept: *const u8,
+        kept_len: usize,
+        size: usize,
+        indexes: *const usize,
+        indexes_count: usize,
+    ) -> i32;
     pub fn paxidore_log_check(kept: *const u8, kept_len: usize, size: usize) -> i32;
     pub fn paxidore_log_verify_inclusion_digest(
         root: *const u8,
@@ -421,6 +431,18 @@ extern "C" {
         digest: *const u8,
         path: *const u8,
         path_len: usize,
+    ) -> i32;
+    pub fn paxidore_log_verify_multi_inclusion(
+        root: *const u8,
+        size: usize,
+        indexes: *const usize,
+        indexes_count: usize,
+        entries: *const u8,
+        entries_len: usize,
+        lengths: *const usize,
+        count: usize,
+        proof: *const u8,
+        proof_len: usize,
     ) -> i32;
 }
 

@@ -73,6 +73,17 @@ fn logs() {
     assert_eq!((of(b"bob"), of(b"dog")), (Ok(true), Ok(false)));
     let by_digest = Log::verify_inclusion_digest(&old, 3, 1, &bob, &path);
     assert_eq!(by_digest, Ok(true));
+    let all = |indexes: &[usize], entries: &[u8], lengths: &[usize]| {
+        Log::verify_multi_inclusion_flat(&old, 3, indexes, entries, lengths, &bob)
+    };
+    assert_eq!(all(&[0, 2], b"anncat", &[3, 3]), Ok(true));
+    assert_eq!(all(&[0, 2], b"anndog", &[3, 3]), Ok(false));
+    assert_eq!(all(&[0, 1], b"annbob", &[3, 3]), Ok(false));
+    assert_eq!(all(&[0, 2], b"anncat", &[3, 2]), Err(Refused::Lengths));
+    assert_eq!(all(&[0, 2], b"anncat", &[6]), Err(Refused::Count));
+    assert_eq!(all(&[2, 0], b"catann", &[3, 3]), Err(Refused::Index));
+    assert_eq!(all(&[], b"", &[]), Err(Refused::Index));
+    assert_eq!(all(&[1], b"bob", &[3]), Err(Refused::Truncated));
     let proof: [u8; 96] = joined(&[&cat, &dan, &ab]);
     let after = |old: &Digest| Log::verify_consistency(old, 3, &new, 4, &proof);
     assert_eq!((after(&old), after(&new)), (Ok(true), Ok(false)));

@@ -141,16 +141,21 @@ signed_is_signature c r k message r8 s it =
         at-times p d baby_jubjub_is_complete n (times G k base)
         ∙ ap (times (edwards p d) n) (sym (times_at k base8 base8_on)) ∙ sym (times_is n (times curve k base8))
 
--- S by its steps
-pub number_made : (o r h k e1 e2 e3 h' m s : ℕ) → h' ≡ h % o → e1 ≡ 2 * h' % o → e2 ≡ 2 * e1 % o → e3 ≡ 2 * e2 % o
-    → m ≡ e3 * k % o → s ≡ (r + m) % o → s ≡ (r + 8 * h * k) % o
-number_made o r h k e1 e2 e3 h' m s is_h is_1 is_2 is_3 is_m is_s =
+-- eight times the challenge by its steps
+pub eightfold : (o h h' e1 e2 e3 : ℕ) → h' ≡ h % o → e1 ≡ 2 * h' % o → e2 ≡ 2 * e1 % o → e3 ≡ 2 * e2 % o
+    → e3 % o ≡ 2 * (2 * (2 * h)) % o
+eightfold o h h' e1 e2 e3 is_h is_1 is_2 is_3 =
     let one : e1 % o ≡ 2 * h % o = low o e1 (2 * h') is_1 ∙ products o 2 2 h' h refl (low o h' h is_h) in
     let two : e2 % o ≡ 2 * (2 * h) % o = low o e2 (2 * e1) is_2 ∙ products o 2 2 e1 (2 * h) refl one in
-    let three : e3 % o ≡ 2 * (2 * (2 * h)) % o = low o e3 (2 * e2) is_3 ∙ products o 2 2 e2 (2 * (2 * h)) refl two in
+    low o e3 (2 * e2) is_3 ∙ products o 2 2 e2 (2 * (2 * h)) refl two
+
+-- S by its steps
+pub number_made : (o r h k e m s : ℕ) → e % o ≡ 2 * (2 * (2 * h)) % o → m ≡ e * k % o → s ≡ (r + m) % o
+    → s ≡ (r + 8 * h * k) % o
+number_made o r h k e m s eight is_m is_s =
     is_s
-    ∙ sums o r r m (2 * (2 * (2 * h)) * k) refl (low o m (e3 * k) is_m
-    ∙ products o e3 (2 * (2 * (2 * h))) k k three refl) ∙ ap (λ n. n % o) (turn r h k)
+    ∙ sums o r r m (2 * (2 * (2 * h)) * k) refl (low o m (e * k) is_m
+    ∙ products o e (2 * (2 * (2 * h))) k k eight refl) ∙ ap (λ n. n % o) (turn r h k)
   where
     turn : (r h k : ℕ) → r + 2 * (2 * (2 * h)) * k ≡ r + 8 * h * k
     turn r h k = omega arith

@@ -4,6 +4,7 @@ pub mod Keeping
 pub mod KeptGiven
 pub mod Lengths
 pub mod MapLemmas
+pub mod MultiLog
 pub mod Putting
 pub mod TwoInputs
 pub mod KeptMapCalls

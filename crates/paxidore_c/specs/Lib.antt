@@ -1,5 +1,6 @@
 pub mod KeptAnswer
 pub mod KeptMaps
+pub mod LogMulti
 pub mod Maps
 pub mod Notes
 pub mod Poseidon

@@ -14,6 +14,7 @@ pub mod kept_proofs;
 pub mod kept_trees;
 pub mod log;
 pub mod log_keeper;
+pub mod log_multi;
 pub mod map;
 pub mod notes;
 pub mod poseidon;

@@ -306,7 +306,7 @@ pub extern "C" fn paxidore_log_check(kept: &[[u8; 32]], size: usize) -> i32
 }
 
 // A log whose entries are given by their digests.
-struct DigestHasher;
+pub(crate) struct DigestHasher;
 
 impl TreeHasher<[u8; 32], [u8; 32]> for DigestHasher {
     type Leaf = [u8; 32];

@@ -8,11 +8,10 @@ use Rattle.poseidon2.specs.Permutation.{Poseidon2Parameters, poseidon2_permutati
 use Rattle.poseidon2.specs.Modes.{both_and_zeros, compressed_digests, state_overwriting, padding_free_hash}
 
 -- two lists behind each other, and zeros up to the width
-pub zeros-behind : {F : Type 0} (f : F → ℕ) (z : F) (w n : ℕ) (ls rs none one both all : List F) → f z ≡ 0
-    → none ≡ [] → one ≡ none ++ ls → both ≡ one ++ rs → length ls + length rs ≤ w → n ≡ length both
+pub zeros-behind : {F : Type 0} (f : F → ℕ) (z : F) (w n : ℕ) (ls rs both all : List F) → f z ≡ 0
+    → both ≡ ls ++ rs → length ls + length rs ≤ w → n ≡ length both
     → all ≡ take w both ++ replicate (w - n) z → map f all ≡ both_and_zeros w (map f ls) (map f rs)
-zeros-behind f z w n ls rs none one both all zero_is empty first second fits count is =
-    let joined : both ≡ ls ++ rs = second ∙ ap (λ l. l ++ rs) (first ∙ ap (λ l. l ++ ls) empty) in
+zeros-behind f z w n ls rs both all zero_is joined fits count is =
     let long : length both ≡ length ls + length rs = ap length joined ∙ length-append ls rs in
     let whole : take w both ≡ ls ++ rs = take_all w both (omega (arith, long, fits)) ∙ joined in
     let left : w - n ≡ w - (length (map f ls) + length (map f rs)) =

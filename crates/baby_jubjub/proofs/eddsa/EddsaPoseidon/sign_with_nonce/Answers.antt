@@ -7,7 +7,7 @@ use Rattle.baby_jubjub.specs.Eddsa.{eddsa_challenge}
 use Rattle.baby_jubjub.specs.Keys.{secret_of}
 use Rattle.baby_jubjub.specs.Points.{coordinates}
 use Rattle.baby_jubjub.specs.Values.{scalar_number, value}
-use Rattle.baby_jubjub.proofs.Equation.{signed_is_signature, number_made}
+use Rattle.baby_jubjub.proofs.Equation.{eightfold, signed_is_signature, number_made}
 use Rattle.baby_jubjub.proofs.eddsa.EddsaPoseidon.sign_with_nonce.Goals as goal
 
 pub modulo_order-hm-requires : goal.modulo_order-hm-requires
@@ -27,11 +27,12 @@ returns-clause-exact c parameters of =
     ∙ ap (λ q. eddsa_challenge parameters r8 q m) c.public_key.ensures in
     record {
       point = c.mul-r8.ensures ∙ ap₂ (times curve) c.words.ensures c.base8.ensures;
-      number = number_made order r h k (scalar_number c.double.result) (scalar_number c.double-2.result)
-          (scalar_number c.double-eight.result) (scalar_number c.modulo_order-hm.result)
+      number = number_made order r h k (scalar_number c.double-eight.result)
           (scalar_number c.mul.result) (scalar_number c.add.result)
+          (eightfold order h (scalar_number c.modulo_order-hm.result) (scalar_number c.double.result)
+          (scalar_number c.double-2.result) (scalar_number c.double-eight.result)
           (c.modulo_order-hm.ensures ∙ ap (λ n. n % order) hash) c.double.ensures c.double-2.ensures
-          c.double-eight.ensures
+          c.double-eight.ensures)
           (c.mul.ensures ∙ ap (λ n. scalar_number c.double-eight.result * n % order) c.secret.ensures) c.add.ensures;
     }
 
