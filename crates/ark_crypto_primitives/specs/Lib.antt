@@ -1,1 +1,4 @@
 pub mod Words
+pub mod Conflicts
+pub mod TreeRelations
+pub mod NodeConflicts

@@ -104,6 +104,13 @@ pub use Rattle.ark_paths.specs.Root.{all_hashes, root_of}
 pub use Rattle.ark_paths.specs.Rows.{IsTree, digests_of, rows_seen}
 pub use Rattle.ark_paths.specs.Tree.{HashedTree, HoldsLeaf, IsAccepted, Tree, halves_beside, path_in, root_in}
 pub use Rattle.ark_paths.specs.Tree.{tree_above, tree_of, tree_with}
+-- conflicts in trees
+pub use Rattle.ark_crypto_primitives.specs.Conflicts.{AreInConflict, IsShownUnder, ShownLeaf, TreeHashes, conflict_verdict}
+pub use Rattle.ark_crypto_primitives.specs.Conflicts.{shown_leaf, shown_pair}
+pub use Rattle.ark_crypto_primitives.specs.NodeConflicts.{NodeConflictsGiveRelations}
+pub use Rattle.ark_crypto_primitives.specs.TreeRelations.{BoweHopwoodConflictsGiveRelations, GivePedersenRelations}
+pub use Rattle.ark_crypto_primitives.specs.TreeRelations.{PedersenConflictsGiveRelations, bowe_hopwood_tree, digest_view}
+pub use Rattle.ark_crypto_primitives.specs.TreeRelations.{pedersen_tree}
 -- logs
 pub use Rattle.merkle_log.specs.Append.{HasLeaf, HasLeaves, IsWholeList, KeepsSizes, RefusesLeaves, RefusesRow, pair_count}
 pub use Rattle.merkle_log.specs.Bind.{BindsDigest, BindsFront, BindsLogLeaf, BindsOldRoot, IsConsistency, IsInclusion}

@@ -1,6 +1,7 @@
 //! Cryptographic primitives that proof systems stand on, under the names of the Rust crate ark-crypto-primitives.
 #![tactic(auto)]
 
+mod conflicts;
 mod ed25519_scheme;
 mod empty_log;
 mod jubjub_hashes;
@@ -208,6 +209,9 @@ pub mod sponge {
 
 /// Merkle trees.
 pub mod merkle_tree {
+    pub use crate::conflicts::{
+        CompressedTree, bowe_hopwood_trees_bind, is_conflict, node_trees_bind, pedersen_trees_bind,
+    };
     pub use ark_merkle::hasher::{ConfigHasher, Counting, TreeHasher};
     pub use ark_merkle::{
         Binding, ByteDigestConverter, Config, DigestConverter, IdentityDigestConverter, LeafParam,
