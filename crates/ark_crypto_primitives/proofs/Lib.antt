@@ -5,3 +5,4 @@ pub mod PedersenConflicts
 pub mod SegmentConflicts
 pub mod Verdicts
 pub mod NodeLemmas
+pub mod PointConflicts

@@ -1,6 +1,7 @@
 -- What a conflict in a tree over Pedersen's or a Bowe-Hopwood hash gives: a relation among the elements of a hash.
-use Rattle.std.specs.Prelude.{◌≡◌, ◌∷◌, [], ℕ, true, List, ℤ}
+use Rattle.std.specs.Prelude.{◌≡◌, ◌∷◌, [], ℕ, true, List, length, ℤ}
 use Rattle.ark_base.specs.Outcome.{Outcome}
+use Rattle.ark_base.specs.Reading.{IsBytes}
 use Rattle.ark_groups.specs.Group.{Group}
 use Rattle.ark_paths.specs.Pair.{Digest}
 use Rattle.ark_crypto_primitives.specs.Conflicts.{TreeHashes, ShownLeaf, AreInConflict, IsShownUnder, Give}
@@ -76,6 +77,31 @@ PedersenConflictsGiveRelations {G} {D} g order leaf_windows pair_windows image v
     → IsShownUnder (pedersen_tree g leaf_windows pair_windows image view leaf_lists pair_lists) root a
     → IsShownUnder (pedersen_tree g leaf_windows pair_windows image view leaf_lists pair_lists) root b
     → GivePedersenRelations g order leaf_windows pair_windows image view leaf_lists pair_lists a b
+
+-- the tree whose digests are the elements that Pedersen hashes are
+abbrev pub point_tree : {G W V : Type 0} → Group G → Windows W → Windows V → DigestView G → List (List G)
+    → List (List G) → TreeHashes G
+point_tree g leaf_windows pair_windows view leaf_lists pair_lists = record {
+  numbers = view.numbers;
+  leaf = λ leaf. seen_by view.numbers (pedersen_hash g leaf_windows leaf_lists leaf);
+  pair = λ left right. seen_by view.numbers
+      (of_halves pair_windows (pedersen_hash g pair_windows pair_lists) (view.bytes_of left) (view.bytes_of right));
+}
+
+-- The canonical bytes of all digests are as many, and are bytes.
+pub record HaveWidth {D : Type 0} (view : DigestView D) (width : ℕ) : Type 0 where
+  pub long : (d : D) → length (view.bytes_of (view.numbers d)) ≡ width
+  pub bytes : (d : D) → IsBytes (view.bytes_of (view.numbers d))
+
+-- conflicts in trees of elements give relations
+abbrev pub PointConflictsGiveRelations : {G W V : Type 0} → Group G → ℕ → Windows W → Windows V → DigestView G → Type 0
+PointConflictsGiveRelations {G} g order leaf_windows pair_windows view =
+    (leaf_lists pair_lists : List (List G)) (leaf pair : List G) (root : Digest) (a b : ShownLeaf G)
+    → AreBinding g order leaf_windows leaf leaf_lists → AreBinding g order pair_windows pair pair_lists
+    → AreInConflict a b → IsShownUnder (point_tree g leaf_windows pair_windows view leaf_lists pair_lists) root a
+    → IsShownUnder (point_tree g leaf_windows pair_windows view leaf_lists pair_lists) root b
+    → Give (point_tree g leaf_windows pair_windows view leaf_lists pair_lists)
+    (GiveRelation g order leaf_windows leaf) (CouplesGiveRelation g order pair_windows view pair) a b
 
 -- ---- Bowe-Hopwood
 

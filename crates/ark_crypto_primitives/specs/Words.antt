@@ -110,7 +110,7 @@ pub use Rattle.ark_crypto_primitives.specs.Conflicts.{shown_leaf, shown_pair}
 pub use Rattle.ark_crypto_primitives.specs.NodeConflicts.{NodeConflictsGiveRelations}
 pub use Rattle.ark_crypto_primitives.specs.TreeRelations.{BoweHopwoodConflictsGiveRelations, GivePedersenRelations}
 pub use Rattle.ark_crypto_primitives.specs.TreeRelations.{PedersenConflictsGiveRelations, bowe_hopwood_tree, digest_view}
-pub use Rattle.ark_crypto_primitives.specs.TreeRelations.{pedersen_tree}
+pub use Rattle.ark_crypto_primitives.specs.TreeRelations.{HaveWidth, PointConflictsGiveRelations, pedersen_tree, point_tree}
 -- logs
 pub use Rattle.merkle_log.specs.Append.{HasLeaf, HasLeaves, IsWholeList, KeepsSizes, RefusesLeaves, RefusesRow, pair_count}
 pub use Rattle.merkle_log.specs.Bind.{BindsDigest, BindsFront, BindsLogLeaf, BindsOldRoot, IsConsistency, IsInclusion}

@@ -3,12 +3,13 @@
 //!
 //! They give a relation among the elements of the hashes. Where nobody knows one, nobody can make a conflict.
 
-ghost use Rattle.std.specs.Prelude.{◌≡◌, ◌≤◌, ◌^◌, true, IfOk};
+ghost use Rattle.std.specs.Prelude.{◌≡◌, ◌≤◌, ◌^◌, ℕ, true, IfOk};
 ghost use Rattle.ark_base.specs.Outcome.{Answers};
 ghost use Rattle.ark_pedersen.specs.Pedersen.{generators_in};
 ghost use Rattle.ark_crypto_primitives.specs.Conflicts.{shown_leaf, conflict_verdict};
 ghost use Rattle.ark_crypto_primitives.specs.NodeConflicts.{NodeConflictsGiveRelations};
 ghost use Rattle.ark_crypto_primitives.specs.TreeRelations.{digest_view, pedersen_tree};
+ghost use Rattle.ark_crypto_primitives.specs.TreeRelations.{HaveWidth, PointConflictsGiveRelations};
 ghost use Rattle.ark_crypto_primitives.specs.TreeRelations.{GivePedersenRelations};
 ghost use Rattle.ark_crypto_primitives.specs.TreeRelations.{PedersenConflictsGiveRelations};
 ghost use Rattle.ark_crypto_primitives.specs.TreeRelations.{BoweHopwoodConflictsGiveRelations};
@@ -64,6 +65,14 @@ where
         C.BaseField.numbers C.BaseField.numbers_of C.BaseField.bytes_of in
         PedersenConflictsGiveRelations C.group order W.Window V.Window
         ⟦<TECompressor as InjectiveMap<C>>⟧.image view }
+{}
+
+/// States the same of trees whose digests are the elements that Pedersen hashes are, where the canonical bytes of all
+/// elements are as many.
+pub fn point_trees_bind<C: AdditiveGroup + DigestItem, W: Window, V: Window>()
+    ensures { let view = digest_view C.numbers C.numbers_of C.bytes_of in
+        (width : ℕ) → HaveWidth view width
+        → PointConflictsGiveRelations C.group C.ScalarField.MODULUS W.Window V.Window view }
 {}
 
 /// States the same of trees over Bowe-Hopwood hashes, whose coefficients are whole numbers, at parameters as `setup` makes

@@ -211,6 +211,7 @@ pub mod sponge {
 pub mod merkle_tree {
     pub use crate::conflicts::{
         CompressedTree, bowe_hopwood_trees_bind, is_conflict, node_trees_bind, pedersen_trees_bind,
+        point_trees_bind,
     };
     pub use ark_merkle::hasher::{ConfigHasher, Counting, TreeHasher};
     pub use ark_merkle::{
