@@ -29,4 +29,5 @@ returns-in-Err-clause-answer c =
     let rising : are_multi_indexes c.args.size c.args.indexes.now ≡ true
     = sym c.are_multi_indexes.ensures ∙ c.if-not-are_multi_indexes.false in
     no-entries-give c.args.root.now c.args.size c.args.indexes.now c.args.entries.now c.args.lengths.now
-    c.args.proof.now (omega arith) rising c.in-Err.refused c.in-Err.ensures.made c.code-in-Err.result c.code-in-Err.ensures
+    c.args.proof.now (omega arith) rising c.in-Err.refused c.in-Err.ensures.made c.code-in-Err.result
+    c.code-in-Err.ensures
