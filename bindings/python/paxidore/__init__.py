@@ -29,6 +29,7 @@ if not getattr(sys, "_is_gil_enabled", lambda: True)():
     raise ImportError("paxidore was not tested without Python's global lock: set PYTHON_GIL=1")
 
 from . import ed25519, notes, poseidon
+from ._entries import EntriesError, OtherRoot
 from ._follow import Fork, OldCheckpoint, WrongTiles, follow, prove_inclusion
 from ._library import (
     BadSignature,
@@ -68,6 +69,7 @@ __all__ = [
     "DamagedHead",
     "DamagedLog",
     "DamagedMap",
+    "EntriesError",
     "Field",
     "Fork",
     "HeightError",
@@ -85,6 +87,7 @@ __all__ = [
     "NotSigned",
     "OldCheckpoint",
     "OtherOrigin",
+    "OtherRoot",
     "OutOfMemory",
     "Refused",
     "ShortLog",

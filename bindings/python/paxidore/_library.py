@@ -1,5 +1,6 @@
 """The library that is called, its answers as exceptions, and the arguments that it takes."""
 import ctypes
+import io
 import os
 from array import array
 from typing import Any, Optional, Sequence, Tuple, Union
@@ -15,6 +16,8 @@ _leaves = (_bytes, _size, _sizes, _size)
 _Flat = Tuple[bytes, int, "ctypes.Array[ctypes.c_size_t]", int]
 # leaves that are handed over: a sequence, or a buffer of leaves of one length
 _Leaves = Union[Sequence[bytes], bytes, bytearray, memoryview]
+# up to so many bytes of the first one, leaves are written into a buffer, and else joined
+_SHORT = 256
 # a wheel has the library beside this file
 _beside = os.path.join(os.path.dirname(os.path.abspath(__file__)), "libpaxidore.so.1")
 _found = os.environ.get("PAXIDORE_LIBRARY", _beside if os.path.exists(_beside) else "libpaxidore.so.1")
@@ -261,17 +264,25 @@ def _copied(buffer: Any) -> bytes:
 
 
 def _flat(leaves: Tuple[bytes, ...]) -> _Flat:
-    # one look at all types and one at all lengths, which costs a third of a call for each leaf
+    # one look at all types, which costs a third of a call for each leaf
     count = len(leaves)
     if list(map(type, leaves)).count(bytes) != count:
         for leaf in leaves:
             _exact("a leaf", leaf)
-    joined = b"".join(leaves)
-    # lengths that may be one are looked at without a list of them; else an array takes a list faster than an iterator
-    if count and len(joined) == count * len(leaves[0]) and len(set(map(len, leaves))) == 1:
-        lengths = array("Q", (len(leaves[0]),)) * count
+    # Short leaves are written one behind the other, which says their lengths too: a join lays out 80 bytes for each leaf first. It
+    # copies many bytes once, where a buffer that grows may copy them again.
+    if count and len(leaves[0]) <= _SHORT:
+        buffer = io.BytesIO()
+        written = list(map(buffer.write, leaves))
+        joined = buffer.getvalue()
     else:
-        lengths = array("Q", list(map(len, leaves)))
+        written = list(map(len, leaves))
+        joined = b"".join(leaves)
+    # one length is repeated faster than a list of it is read
+    if count and written.count(written[0]) == count:
+        lengths = array("Q", written[:1]) * count
+    else:
+        lengths = array("Q", written)
     return joined, len(joined), (_size * count).from_buffer(lengths), count
 
 

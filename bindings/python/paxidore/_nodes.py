@@ -8,7 +8,7 @@ import sqlite3
 import stat
 import time
 import weakref
-from typing import Any, Callable, Dict, List, Optional, Sequence, Set, Tuple, TypeVar, Union
+from typing import Any, Callable, Dict, Iterable, List, Optional, Sequence, Set, Tuple, TypeVar, Union
 
 from ._library import DIGEST_BYTES, _bytes, _call, _refusal, _size
 
@@ -356,6 +356,16 @@ class _Store:
         self.base.execute("INSERT INTO version VALUES (?, ?, ?)", (number, root, entries))
         if isinstance(self.versions, int):
             self.forget(number - self.versions + 1)
+
+    def fill(self, root: bytes, entries: int, nodes: Iterable[Tuple[bytes, bytes]]) -> None:
+        """Writes the first version of a map that never had any node."""
+        number = self.head(None)[0]
+        if number != 0:
+            raise FileExistsError(errno.EEXIST, "another process keeps a map in the file", self.path)
+        self.base.executemany("INSERT INTO node (digest, bytes) VALUES (?, ?)", nodes)
+        self.base.execute("INSERT INTO version VALUES (?, ?, ?)", (number + 1, root, entries))
+        if isinstance(self.versions, int):
+            self.forget(number + 2 - self.versions)
 
     def forget(self, number: int) -> None:
         self.base.execute("DELETE FROM version WHERE number < ?", (number,))

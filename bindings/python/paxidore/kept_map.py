@@ -1,7 +1,9 @@
 """Maps whose entries and forks are kept in memory. ``paxidore.KeptMap`` is the class of this module."""
 import ctypes
+import io
 from typing import Any, Callable, Iterable, Iterator, Mapping, MutableMapping, Optional, Tuple
 
+from ._entries import ENTRY_BYTES, OtherRoot, trusted
 from ._library import DIGEST_BYTES, _above, _bytes, _call, _digest, _refusal, _size, _sizes
 from ._turn import Turn
 
@@ -32,7 +34,7 @@ _copy = _call("kept_map_copy", ctypes.c_int32, *_kept, *_kept)
 _check = _call("kept_map_check", ctypes.c_int32, _memory, *_kept)
 
 # as the header has them
-_ENTRY_BYTES, _FORK_BYTES, _CHANGE_FORKS = 64, 48, 256
+_FORK_BYTES, _CHANGE_FORKS = 48, 256
 _PROOF_BYTES = 3 + 64 + 32 + 256 * 32
 _ROOM = -9
 # a copy is made where a third of so many forks, or more, no longer belongs to the map
@@ -46,7 +48,7 @@ class _State:
 
     def __init__(self, entries: int, forks: int) -> None:
         self.head = _Head()
-        self.entries = ctypes.create_string_buffer(_ENTRY_BYTES * entries)
+        self.entries = ctypes.create_string_buffer(ENTRY_BYTES * entries)
         self.forks = ctypes.create_string_buffer(_FORK_BYTES * forks)
         # how many forks the map had when no other ones were there
         self.own_forks = 0
@@ -55,7 +57,7 @@ class _State:
         self.lineage = object()
 
     def all(self) -> Tuple[Any, ...]:
-        entries, forks = len(self.entries) // _ENTRY_BYTES, len(self.forks) // _FORK_BYTES
+        entries, forks = len(self.entries) // ENTRY_BYTES, len(self.forks) // _FORK_BYTES
         return ctypes.byref(self.head), self.entries, entries, self.forks, forks
 
     def with_room(self) -> "_State":
@@ -66,7 +68,7 @@ class _State:
         more = self._sparse() if head.forks >= self.own_forks + self.own_forks // 2 + _FEW else None
         if more is None:
             more = _State(head.entries + head.entries // 8 + 16, head.forks + head.forks // 8 + 2 * _CHANGE_FORKS)
-            ctypes.memmove(more.entries, self.entries, _ENTRY_BYTES * head.entries)
+            ctypes.memmove(more.entries, self.entries, ENTRY_BYTES * head.entries)
             ctypes.memmove(more.forks, self.forks, _FORK_BYTES * head.forks)
             ctypes.pointer(more.head)[0] = head
             more.own_forks, more.lineage = self.own_forks, self.lineage
@@ -82,7 +84,7 @@ class _State:
             raise _refusal(answer)
         made = copy.head
         more = _State(made.entries + made.entries // 2 + 16, made.forks + made.forks // 2 + _FEW + 2 * _CHANGE_FORKS)
-        ctypes.memmove(more.entries, copy.entries, _ENTRY_BYTES * made.entries)
+        ctypes.memmove(more.entries, copy.entries, ENTRY_BYTES * made.entries)
         ctypes.memmove(more.forks, copy.forks, _FORK_BYTES * made.forks)
         ctypes.pointer(more.head)[0] = made
         more.own_forks = made.forks
@@ -191,6 +193,40 @@ class KeptMap(MutableMapping[bytes, bytes]):
     def first_from(self, key: bytes) -> Optional[Tuple[bytes, bytes]]:
         """The entry with the least key that is not below this one; None where there is none."""
         return self._turn.run(self._found_from, _digest(key, "key"))
+
+    def _written(self) -> bytes:
+        entries, words = io.BytesIO(), self._state.all()
+        found = ctypes.create_string_buffer(ENTRY_BYTES)
+        value = ctypes.byref(found, DIGEST_BYTES)
+        above: Optional[bytes] = bytes(DIGEST_BYTES)
+        while above is not None:
+            answer = _next(found, value, *words, above)
+            if answer < 0:
+                raise _refusal(answer)
+            if answer != 0:
+                break
+            entries.write(found)
+            above = _above(found.raw[:DIGEST_BYTES])
+        return entries.getvalue()
+
+    def to_bytes(self) -> bytes:
+        """The entries by rising keys, 64 bytes each: the key, then the value, for ``from_bytes``, here and of ``Map``."""
+        return self._turn.run(self._written)
+
+    @classmethod
+    def from_bytes(cls, data: "bytes | bytearray | memoryview", root: bytes) -> "KeptMap":
+        """The map of the entries that ``to_bytes`` returned, where it has this root: that of the map that is trusted.
+
+        The root is compared before the map takes any memory, and once more with that of the library. Raises ``EntriesError``, which is
+        ``ValueError``, where the bytes end within an entry or a key is not above the one before it, and ``OtherRoot``, which is
+        ``EntriesError``, where they have another root; ``OutOfMemory``.
+        """
+        entries, kept = trusted(data, root), cls()
+        for place in range(0, len(entries), ENTRY_BYTES):
+            kept._set(entries[place : place + DIGEST_BYTES], entries[place + DIGEST_BYTES : place + ENTRY_BYTES])
+        if kept.root != root:
+            raise OtherRoot("the entries have another root")
+        return kept
 
     def version(self) -> KeptVersion:
         """The map as it is now, for ``differences``. It is lost where a change copies the map without what no longer belongs to it."""

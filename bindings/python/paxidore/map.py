@@ -1,56 +1,25 @@
 """Maps with one root, for whoever keeps one and for clients. ``paxidore.Map`` is the class of this module."""
+import contextlib
 import ctypes
 import heapq
+import io
 import os
 import sqlite3
 import threading
-from typing import Any, Callable, ContextManager, Dict, Iterable, Iterator, List, Mapping, MutableMapping, Optional, Sequence, Tuple, TypeVar
+from typing import Any, Callable, ContextManager, Dict, Iterable, Iterator, Mapping, MutableMapping, Optional, Sequence, Tuple, TypeVar
 
 from ._batch import Batch, Changed, Entered
-from ._library import DIGEST_BYTES, _above, _bytes, _call, _digest, _exact, _int, _refusal, _size, _sizes
+from ._entries import ENTRY_BYTES, nodes_of, trusted
+from ._library import DIGEST_BYTES, _bytes, _call, _digest, _int, _refusal, _size, _sizes
+from ._map_checks import _ROW_BYTES, MapChecks, _Changes
 from ._nodes import _MOST, _NOTHING, AsKept, DamagedMap, Versions, _alone, _root_of, _Store
 from ._turn import Turn
 
 _Result = TypeVar("_Result")
 
-_map_verify = _call("map_verify", ctypes.c_int32, _bytes, _bytes, _bytes, _bytes, _size)
-_map_verify_absent = _call("map_verify_absent", ctypes.c_int32, _bytes, _bytes, _bytes, _size)
 _map_prove = _call("map_prove", ctypes.c_int32, ctypes.c_void_p, _size, _sizes, _bytes, _size, _bytes)
-_map_next = _call("map_next", ctypes.c_int32, ctypes.c_void_p, ctypes.c_void_p, _bytes, _size, _bytes, _bytes)
-# bytes, keys or values with their count
-_run = (_bytes, _size)
-_map_change = _call("map_change", ctypes.c_int32, ctypes.c_void_p, ctypes.c_void_p, _size, _sizes, _bytes, *_run, *_run, *_run)
-
-# as the header has them
+# as the header has it
 _PROOF_BYTES = 3 + 64 + 32 + 256 * 32
-_ROW_BYTES = 97
-_ROOM = -9
-
-
-class _Changes:
-    """Changes as the library takes them: the keys that get a value, with these, and behind them those that are removed."""
-
-    def __init__(self, changes: Mapping[bytes, Optional[bytes]]) -> None:
-        put = {_digest(key, "key"): _digest(value, "value") for key, value in changes.items() if value is not None}
-        self.removed = frozenset(_digest(key, "key") for key, value in changes.items() if value is None)
-        self.keys = [*put, *self.removed]
-        self.count = len(put)
-        self.flat_keys, self.flat_values = b"".join(self.keys), b"".join(put.values())
-
-    def make(self, root: bytes, tree: bytes) -> Tuple[int, bytes, bytes]:
-        """The answer of the library, the new root and the rows of the new tree."""
-        new_root, count = ctypes.create_string_buffer(DIGEST_BYTES), _size()
-        # each value may part two keys that share some bits; the library says where that is not enough
-        room = _ROW_BYTES * (len(tree) // 33 + 4 * self.count + 8)
-        while True:
-            rows = ctypes.create_string_buffer(room)
-            answer = _map_change(
-                new_root, rows, room, ctypes.byref(count), root, tree, len(tree),
-                self.flat_keys, len(self.keys), self.flat_values, self.count,
-            )  # fmt: skip
-            if answer != _ROOM:
-                return answer, new_root.raw, ctypes.string_at(rows, count.value) if answer == 0 else b""
-            room = count.value
 
 
 class MapVersion(Mapping[bytes, bytes]):
@@ -125,7 +94,7 @@ class MapVersion(Mapping[bytes, bytes]):
             raise _damage(answer)
         shown = ctypes.string_at(proof, count.value)
         value = next((node[33:] for node in met.values() if node[0] == 0 and node[1:33] == key), None)
-        if not Map.verify(root, key, value, shown):
+        if not MapChecks.verify(root, key, value, shown):
             raise DamagedMap("a node of the map is not the one that was stored")
         return value, shown
 
@@ -152,8 +121,8 @@ class MapVersion(Mapping[bytes, bytes]):
                 raise RuntimeError("the map changed during iteration") from None
             raise
 
-    def _entries(self, store: _Store, root: bytes) -> Iterator[Tuple[bytes, bytes]]:
-        """The entries of the map with a root by rising keys, each node checked."""
+    def _entries(self, store: _Store, root: bytes) -> Iterator[bytes]:
+        """The entries of the map with a root by rising keys, each its key and its value, each node checked."""
         parts = [(root, 0)]
         while parts:
             digest, level = parts.pop()
@@ -163,44 +132,57 @@ class MapVersion(Mapping[bytes, bytes]):
             if _root_of(_alone(node)) != digest or level > 256:
                 raise DamagedMap("a node of the map is not the one that was stored")
             if node[0] == 0:
-                yield node[1:33], node[33:]
+                yield node[1:]
             else:
                 parts += [(node[33:], level + 1), (node[1:33], level + 1)]
 
     def _still(self) -> Iterator[Tuple[Optional[bytes], int]]:
-        """The keys, rising, of the map as it is when the first one is asked for, and behind them None with the count that it states."""
+        """The entries by rising keys of the map as it is when the first one is asked for, and behind them None with the count that it
+        states."""
         own = self._open()
         if own.path is None:
-            yield from self._keys(own, self._head())
+            yield from self._counted_entries(own, self._head())
             return
         store = own.beside()
         try:
             # on one line, as in _Store.within: nothing keeps what was deleted meanwhile once the iteration has ended
-            with store.base: yield from self._still_keys(store)  # fmt: skip
+            with store.base: yield from self._still_entries(store)  # fmt: skip
         finally:
             store.close()
 
-    def _still_keys(self, store: _Store) -> Iterator[Tuple[Optional[bytes], int]]:
+    def _still_entries(self, store: _Store) -> Iterator[Tuple[Optional[bytes], int]]:
         store.base.execute("BEGIN")
-        yield from self._keys(store, store.head(self._number))
+        yield from self._counted_entries(store, store.head(self._number))
 
-    def _keys(self, store: _Store, head: Tuple[int, bytes, int]) -> Iterator[Tuple[Optional[bytes], int]]:
-        for key, _ in self._entries(store, head[1]):
-            yield key, 0
+    def _counted_entries(self, store: _Store, head: Tuple[int, bytes, int]) -> Iterator[Tuple[Optional[bytes], int]]:
+        for entry in self._entries(store, head[1]):
+            yield entry, 0
         yield None, head[2]
 
     def __iter__(self) -> Iterator[bytes]:
         """The keys, rising, of the map as it is when the first one is asked for. A map in memory is not to change meanwhile; of one in a
         file, SQLite's log grows with each change as long as an iteration is left open: its ``close()`` ends it."""
-        for key, _ in self._still():
-            if key is not None:
-                yield key
+        for entry, _ in self._still():
+            if entry is not None:
+                yield entry[:DIGEST_BYTES]
+
+    def to_bytes(self) -> bytes:
+        """The entries by rising keys, 64 bytes each: the key, then the value, for ``from_bytes`` of ``Map`` and ``KeptMap``.
+
+        They are those of the map as it is at the call, without the changes of a batch, each node checked: raises ``DamagedMap``, and
+        ``RuntimeError`` where a map in memory changes meanwhile.
+        """
+        entries = io.BytesIO()
+        for entry, _ in self._still():
+            if entry is not None:
+                entries.write(entry)
+        return entries.getvalue()
 
     def check(self) -> None:
         """Reads all nodes, and raises ``DamagedMap`` where one is not the one that was stored, or the count of entries is another."""
         found = 0
-        for key, stated in self._still():
-            if key is not None:
+        for entry, stated in self._still():
+            if entry is not None:
                 found += 1
             elif found != stated:
                 raise DamagedMap("the map states another count of entries")
@@ -222,7 +204,7 @@ def _damage(answer: int) -> Exception:
     return DamagedMap("a node of the map is not the one that was stored (%s)" % refused)
 
 
-class Map(MapVersion, MutableMapping[bytes, bytes]):
+class Map(MapVersion, MapChecks, MutableMapping[bytes, bytes]):
     """A map with one root, like a dict of keys of 32 bytes with values of 32 bytes, with proofs of what it has and has not.
 
     ``Map()`` keeps its nodes in memory, ``Map.open(path)`` in a file of SQLite. Hash other values first. Keys should be hashes: whoever
@@ -287,6 +269,53 @@ class Map(MapVersion, MutableMapping[bytes, bytes]):
             raise
         return self
 
+    @classmethod
+    def from_bytes(
+        cls,
+        data: "bytes | bytearray | memoryview",
+        root: bytes,
+        path: "Optional[os.PathLike[str] | os.PathLike[bytes] | str | bytes]" = None,
+        *,
+        wait: float = 5,
+        versions: Versions = AsKept(),
+    ) -> "Map":
+        """The map of the entries that ``to_bytes`` returned, where it has this root: that of the map that is trusted. It is in memory, or
+        in a file that is made at ``path``, for which ``wait`` and ``versions`` are those of ``open``.
+
+        The root is compared before a map takes any memory, and before the file is made. The nodes are written in one change.
+
+        Raises ``EntriesError``, which is ``ValueError``, where the bytes end within an entry or a key is not above the one before it, and
+        ``OtherRoot``, which is ``EntriesError``, where they have another root; ``FileExistsError`` where there is a file; ``OSError``,
+        ``sqlite3.Error``. Then there is no new file, but a crash or an interrupt can leave that of an empty map.
+        """
+        entries = trusted(data, root)
+        if path is None:
+            own = cls()
+            own._asked(own._fill, entries, root)
+            return own
+        name = os.fsdecode(path)
+        os.close(os.open(name, os.O_RDWR | os.O_CREAT | os.O_EXCL | os.O_CLOEXEC, 0o666))
+        made: "Optional[Map]" = None
+        try:
+            made = cls.open(name, wait=wait, versions=versions)
+            made._asked(made._fill, entries, root)
+        except BaseException as error:
+            # before its file is gone: SQLite would remove the log of another one of this name
+            if made is not None:
+                made.close()
+            # where the map has entries, the file is another process's by now
+            if not isinstance(error, FileExistsError):
+                for end in "", "-wal", "-shm":
+                    with contextlib.suppress(FileNotFoundError):
+                        os.unlink(name + end)
+            raise
+        return made
+
+    def _fill(self, entries: bytes, root: bytes) -> None:
+        store = self._open()
+        if entries:
+            store.change(store.fill, root, len(entries) // ENTRY_BYTES, nodes_of(entries))
+
     def close(self) -> None:
         """Closes the file. The map cannot be used any more. A second call does nothing."""
         self._turn.run(self._close)
@@ -301,48 +330,6 @@ class Map(MapVersion, MutableMapping[bytes, bytes]):
 
     def __exit__(self, *error: object) -> None:
         self.close()
-
-    @staticmethod
-    def verify(root: bytes, key: bytes, value: Optional[bytes], proof: bytes) -> bool:
-        """Whether the bytes of a proof show that the map with this root has this at the key: a value, or nothing where it is None.
-
-        Where it returns True, every map with this root has this at the key, or two different nodes with one SHA-256 are at hand. Raises
-        ``TruncatedProof`` and ``InvalidProof``, which are ``ValueError``, for bytes that are no proof; ``OutOfMemory``.
-        """
-        _digest(root), _digest(key, "key")
-        if type(proof) is not bytes:
-            raise TypeError("proof is bytes, not %s" % type(proof).__name__)
-        if value is None:
-            answer = _map_verify_absent(root, key, proof, len(proof))
-        else:
-            answer = _map_verify(root, key, _digest(value, "value"), proof, len(proof))
-        if answer < 0:
-            raise _refusal(answer)
-        return bool(answer == 0)
-
-    @staticmethod
-    def verify_range(root: bytes, first: bytes, last: bytes, tree: bytes) -> Optional[List[Tuple[bytes, bytes]]]:
-        """All entries from ``first`` to ``last``, both with them, of the map with this root, by the bytes of ``prove_range``.
-
-        None where the tree has another root. Else every map with this root has these there and no others, or two different nodes with one
-        SHA-256 are at hand. Raises ``TruncatedProof`` and ``InvalidProof`` for bytes that are no tree, ``HiddenTree`` where the tree hides a
-        part that may have an entry there; ``OutOfMemory``.
-        """
-        _digest(root), _digest(first, "first"), _digest(last, "last")
-        if _root_of(_exact("tree", tree)) != root:
-            return None
-        entries: List[Tuple[bytes, bytes]] = []
-        key, value = ctypes.create_string_buffer(DIGEST_BYTES), ctypes.create_string_buffer(DIGEST_BYTES)
-        above: Optional[bytes] = first
-        while above is not None:
-            answer = _map_next(key, value, tree, len(tree), above, last)
-            if answer < 0:
-                raise _refusal(answer)
-            if answer != 0:
-                break
-            entries.append((key.raw, value.raw))
-            above = _above(key.raw)
-        return entries
 
     def at(self, version: int) -> MapVersion:
         """A version that is kept. Raises ``KeyError`` where it is not."""
@@ -389,21 +376,6 @@ class Map(MapVersion, MutableMapping[bytes, bytes]):
         its value, or is removed where that is None."""
         asked = _Changes(changes)
         return self._look_up(asked.keys, asked.removed)[1]
-
-    @staticmethod
-    def changed_root(root: bytes, changes: Mapping[bytes, Optional[bytes]], witness: bytes) -> Optional[bytes]:
-        """The root after changes of the map with this root, by a witness of them; None where the witness has another root.
-
-        Each map with the old root has the new one after the changes, or two different nodes with one SHA-256 are at hand. Raises
-        ``TruncatedProof`` and ``InvalidProof`` for bytes that are no witness, ``HiddenTree`` for one that hides what the changes need,
-        all ``ValueError``; ``OutOfMemory``.
-        """
-        if type(witness) is not bytes:
-            raise TypeError("witness is bytes, not %s" % type(witness).__name__)
-        answer, new_root, _ = _Changes(changes).make(_digest(root), witness)
-        if answer < 0:
-            raise _refusal(answer)
-        return new_root if answer == 0 else None
 
     def _entered(self) -> Optional[Entered]:
         """The batch that this thread is in."""

@@ -179,6 +179,7 @@ def of_maps(folder, is_in_file):
         "root": lambda made: (made.root, made.version, len(made)),
         "keys": lambda made: list(made)[:1],
         "check": lambda made: made.check(),
+        "to_bytes": lambda made: made.to_bytes(),
         "at": lambda made: made.at(made.version)[KEYS[3]],
         "forget": lambda made: made.forget(made.version),
         "witness": lambda made: made.witness({KEYS[3]: None}),

@@ -294,6 +294,27 @@ class Calls(unittest.TestCase):
         self.assertEqual(log.root(), other.root())
         self.assertEqual(log.append(b"", length=32), 8)
 
+    def test_lists_of_short_and_long_leaves(self):
+        """Short leaves are joined in another way than long ones."""
+        for lengths in [32] * 8, [0] * 4, [256] * 4, [257] * 4, [0, 1, 300, 9], [300, 0, 9, 1], [256, 257], [257, 256], [1, 1, 1, 2]:
+            leaves = [bytes([n]) * length for n, length in enumerate(lengths)]
+            for trees, _, _ in HASHINGS:
+                root = trees.root(leaves)
+                self.assertEqual(root, trees.root(tuple(leaves)))
+                for index, leaf in enumerate(leaves):
+                    self.assertTrue(trees.verify(root, len(leaves), index, leaf, trees.path(leaves, index)))
+                for wrap in (Longer, bytearray, memoryview):
+                    for place in range(len(leaves)):
+                        with self.assertRaisesRegex(TypeError, "^a leaf is bytes, not %s$" % wrap.__name__):
+                            trees.root(leaves[:place] + [wrap(leaves[place])] + leaves[place + 1 :])
+            log, other = paxidore.Log(), paxidore.Log()
+            log.append(leaves)
+            for leaf in leaves:
+                other.append([leaf])
+            self.assertEqual(log.root(), other.root())
+        with self.assertRaises(paxidore.SizeError):
+            paxidore.rfc6962.root([])
+
     def test_only_int_is_taken(self):
         log, zeros = paxidore.Log, bytes(32)
         for trees, _, _ in HASHINGS:

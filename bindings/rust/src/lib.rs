@@ -29,6 +29,8 @@ mod log;
 mod log_file;
 mod map;
 #[cfg(feature = "std")]
+mod map_entries;
+#[cfg(feature = "std")]
 mod map_memory;
 pub mod notes;
 pub mod poseidon;
@@ -68,9 +70,10 @@ pub type Nonce = [u8; 32];
 pub enum Refused {
     /// A request for memory was refused.
     Memory,
-    /// The bytes of the proof end early.
+    /// The bytes of the proof end early, or those of a map's entries within one.
     Truncated,
-    /// The bytes are no proof for these indexes: of others, not canonical, or with bytes behind.
+    /// The bytes are no proof for these indexes: of others, not canonical, or with bytes behind; or the keys of a map's entries do
+    /// not rise.
     Invalid,
     /// The proof is for a tree of another size.
     Height,
@@ -104,6 +107,8 @@ pub enum Refused {
     NotSigned,
     /// The checkpoint is of another origin.
     OtherOrigin,
+    /// The entries of a map have another root than the one that is trusted. Only `Map::from_bytes` gives it.
+    OtherRoot,
     /// Another answer of a library that is newer than this crate.
     Other(i32),
 }
@@ -161,6 +166,7 @@ impl fmt::Display for Refused {
             Refused::BadSignature => f.write_str("a signature by a key does not hold"),
             Refused::NotSigned => f.write_str("the checkpoint lacks signatures that are asked for"),
             Refused::OtherOrigin => f.write_str("the checkpoint is of another origin"),
+            Refused::OtherRoot => f.write_str("the entries of the map have another root"),
             // a newer library has words for it
             Refused::Other(answer) => {
                 // SAFETY: the library answers a text of its own for each number, which ends with a zero byte and never changes.

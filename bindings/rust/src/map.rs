@@ -242,6 +242,18 @@ impl Map {
         self.memory.hash()
     }
 
+    // The map of entries whose keys are different. What no longer belongs to it is left out on the way.
+    pub(crate) fn of(entries: impl Iterator<Item = (Digest, Digest)>) -> Result<Map, Refused> {
+        let mut map = Map::new();
+        for (key, value) in entries {
+            map.memory.leave_out(map.len)?;
+            map.memory.set(&key, Some(&value))?;
+            map.len += 1;
+        }
+        map.root = map.memory.hash()?;
+        Ok(map)
+    }
+
     /// Puts a value at a key. The refusal is `Memory`, and leaves the map as it was.
     pub fn insert(&mut self, key: Digest, value: Digest) -> Result<(), Refused> {
         self.change(&[(key, Some(value))])
