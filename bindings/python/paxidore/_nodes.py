@@ -40,6 +40,35 @@ class DamagedMap(ValueError):
     """The file is no map's, or a node of the map is not there or is another than its digest says."""
 
 
+class _Busy(sqlite3.OperationalError, BlockingIOError):
+    """Another process has the file of the map for too long. It is SQLite's error too."""
+
+
+class _NotDone(sqlite3.OperationalError, OSError):
+    """The disk is full, or the file of the map could not be read or written. It is SQLite's error too."""
+
+
+_REASONS = (
+    ("database is locked", _Busy, errno.EAGAIN, "another process has the file for too long"),
+    ("database or disk is full", _NotDone, errno.ENOSPC, "the disk is full"),
+    ("disk I/O error", _NotDone, errno.EIO, "the file cannot be read or written"),
+)
+
+
+def reason_of(error: sqlite3.DatabaseError, path: Optional[str]) -> Exception:
+    """The error of this module or of the system for what SQLite says of a file."""
+    # its classes below are of what is locked, full or used in another way
+    if type(error) is sqlite3.DatabaseError:
+        return DamagedMap("the file is damaged (%s)" % error)
+    for said, kind, number, why in _REASONS:
+        if str(error).startswith(said):
+            reason: Exception = kind(number, why, path)
+            # what SQLite's errors have from Python 3.11 on: sqlite_errorcode, sqlite_errorname
+            vars(reason).update(vars(error))
+            return reason
+    return error
+
+
 class AsKept:
     """As many versions as the file was last asked to keep, 1 for a new one."""
 

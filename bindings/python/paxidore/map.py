@@ -12,7 +12,7 @@ from ._batch import Batch, Changed, Entered
 from ._entries import ENTRY_BYTES, nodes_of, trusted
 from ._library import DIGEST_BYTES, _bytes, _call, _digest, _int, _refusal, _size, _sizes
 from ._map_checks import _ROW_BYTES, MapChecks, _Changes
-from ._nodes import _MOST, _NOTHING, AsKept, DamagedMap, Versions, _alone, _root_of, _Store
+from ._nodes import _MOST, _NOTHING, AsKept, DamagedMap, Versions, _alone, _root_of, _Store, reason_of
 from ._turn import Turn
 
 _Result = TypeVar("_Result")
@@ -42,14 +42,11 @@ class MapVersion(Mapping[bytes, bytes]):
         return self._asked(self._stated)
 
     def _asked(self, call: Callable[..., _Result], *given: Any) -> _Result:
-        """Calls within a turn. SQLite's word for a file that it cannot read is this module's."""
+        """Calls within a turn. What SQLite says of a file is an error of this module or of the system."""
         try:
             return self._turn.run(call, *given)
         except sqlite3.DatabaseError as error:
-            # its classes below are of what is locked, full or used in another way
-            if type(error) is not sqlite3.DatabaseError:
-                raise
-            raise DamagedMap("the file is damaged (%s)" % error) from None
+            raise reason_of(error, None if self._store is None else self._store.path) from None
 
     def _stated(self) -> Tuple[int, bytes, int]:
         store = self._open()
@@ -143,7 +140,7 @@ class MapVersion(Mapping[bytes, bytes]):
         if own.path is None:
             yield from self._counted_entries(own, self._head())
             return
-        store = own.beside()
+        store = self._asked(own.beside)
         try:
             # on one line, as in _Store.within: nothing keeps what was deleted meanwhile once the iteration has ended
             with store.base: yield from self._still_entries(store)  # fmt: skip
@@ -151,8 +148,11 @@ class MapVersion(Mapping[bytes, bytes]):
             store.close()
 
     def _still_entries(self, store: _Store) -> Iterator[Tuple[Optional[bytes], int]]:
+        yield from self._counted_entries(store, self._asked(self._begun, store))
+
+    def _begun(self, store: _Store) -> Tuple[int, bytes, int]:
         store.base.execute("BEGIN")
-        yield from self._counted_entries(store, store.head(self._number))
+        return store.head(self._number)
 
     def _counted_entries(self, store: _Store, head: Tuple[int, bytes, int]) -> Iterator[Tuple[Optional[bytes], int]]:
         for entry in self._entries(store, head[1]):
@@ -241,8 +241,8 @@ class Map(MapVersion, MapChecks, MutableMapping[bytes, bytes]):
         nothing can be written is read where it was closed.
 
         Raises ``DamagedMap``, which is ``ValueError``, where the file is no map's, what it states cannot be, the node of its root is
-        damaged, or it has another root; ``OSError`` where it is not there or cannot be written; ``sqlite3.Error`` where another process
-        has it for too long.
+        damaged, or it has another root; ``OSError`` where it is not there or cannot be written, ``BlockingIOError`` where another process
+        has it for too long. A change raises these too, and leaves the map as it was.
         """
         if versions is not None and not isinstance(versions, AsKept):
             versions = _int("versions", versions)
@@ -255,7 +255,7 @@ class Map(MapVersion, MapChecks, MutableMapping[bytes, bytes]):
             MapVersion.__init__(self, _Store(path, read_only, wait, versions), Turn(), None)
         except sqlite3.DatabaseError as error:
             if isinstance(error, sqlite3.OperationalError):
-                raise
+                raise reason_of(error, os.fsdecode(path)) from None
             raise DamagedMap("the file is no map's (%s)" % error) from None
         self._batches = {}
         try:
@@ -285,8 +285,8 @@ class Map(MapVersion, MapChecks, MutableMapping[bytes, bytes]):
         The root is compared before a map takes any memory, and before the file is made. The nodes are written in one change.
 
         Raises ``EntriesError``, which is ``ValueError``, where the bytes end within an entry or a key is not above the one before it, and
-        ``OtherRoot``, which is ``EntriesError``, where they have another root; ``FileExistsError`` where there is a file; ``OSError``,
-        ``sqlite3.Error``. Then there is no new file, but a crash or an interrupt can leave that of an empty map.
+        ``OtherRoot``, which is ``EntriesError``, where they have another root; ``FileExistsError`` where there is a file; ``OSError``. Then
+        there is no new file, but a crash or an interrupt can leave that of an empty map.
         """
         entries = trusted(data, root)
         if path is None:

@@ -1,4 +1,5 @@
 """Maps in files: versions, damage, readers, forks and kills."""
+import errno
 import io
 import os
 import pathlib
@@ -168,6 +169,44 @@ class Files(unittest.TestCase):
                     with self.assertRaises(DamagedMap):
                         own._store.head(None)
                     own._store.base.execute("ROLLBACK")
+
+    def test_another_process_has_the_file(self):
+        with Map.open(self.path, wait=0) as own:
+            own[near(1)] = sha(b"1")
+            other = sqlite3.connect(self.path, isolation_level=None)
+            self.addCleanup(other.close)
+            other.execute("BEGIN IMMEDIATE")
+            for call in (
+                lambda: own.__setitem__(near(2), sha(b"2")),
+                lambda: own.forget(0),
+                lambda: Map.open(self.path, wait=0),
+            ):
+                # one error under both names
+                for kind in BlockingIOError, sqlite3.OperationalError:
+                    with self.assertRaises(kind) as caught:
+                        call()
+                self.assertEqual(caught.exception.filename, self.path)
+                if sys.version_info >= (3, 11):
+                    self.assertEqual(caught.exception.sqlite_errorname, "SQLITE_BUSY")
+            self.assertEqual((own[near(1)], list(own)), (sha(b"1"), [near(1)]))
+            other.execute("ROLLBACK")
+            own[near(2)] = sha(b"2")
+
+    def test_a_disk_that_is_full(self):
+        with Map.open(self.path, versions=None) as own:
+            own[near(1)] = sha(b"1")
+            root = own.root
+            pages = own._store.number("PRAGMA page_count")
+            own._store.base.execute("PRAGMA max_page_count = %d" % (pages + 2))
+            with self.assertRaises(OSError) as caught:
+                own.update({near(i): sha(b"%d" % i) for i in range(200)})
+            self.assertEqual((caught.exception.errno, caught.exception.filename), (errno.ENOSPC, self.path))
+            self.assertIsInstance(caught.exception, sqlite3.OperationalError)
+            self.assertEqual((own.root, len(own), own.version), (root, 1, 1))
+            own.check()
+            own._store.base.execute("PRAGMA max_page_count = 1000000")
+            own.update({near(i): sha(b"%d" % i) for i in range(200)})
+            own.check()
 
     def test_makers_at_once(self):
         """Whoever makes a map's file waits for another who does."""

@@ -213,14 +213,16 @@ impl Map {
     pub fn change(&mut self, changes: &[(Digest, Option<Digest>)]) -> Result<(), Refused> {
         self.memory.leave_out(self.len)?;
         // what a change writes stands behind all that an earlier head has
-        let (head, len) = (self.memory.head, self.len);
-        let made = self.make(changes);
-        match made {
+        let (head, len, mut aside) = (self.memory.head, self.len, None);
+        match self.make(changes, &mut aside) {
             Ok(root) => {
                 self.root = root;
                 Ok(())
             }
             Err(refused) => {
+                if let Some(memory) = aside {
+                    self.memory = memory;
+                }
                 (self.memory.head, self.len) = (head, len);
                 Err(refused)
             }
@@ -232,9 +234,16 @@ impl Map {
         Ok(self.memory.checked_root()? == self.root)
     }
 
-    // Makes changes, one after the other, and returns the root.
-    fn make(&mut self, changes: &[(Digest, Option<Digest>)]) -> Result<Digest, Refused> {
+    // Makes changes, one after the other, and returns the root. Where many of them copy the map, the memory of before stands aside.
+    fn make(
+        &mut self,
+        changes: &[(Digest, Option<Digest>)],
+        aside: &mut Option<Memory>,
+    ) -> Result<Digest, Refused> {
         for (key, value) in changes {
+            if let Some(memory) = self.memory.leave_out(self.len)? {
+                aside.get_or_insert(memory);
+            }
             let had = self.get(key).is_some();
             self.memory.set(key, value.as_ref())?;
             self.len = self.len + usize::from(value.is_some()) - usize::from(had);

@@ -342,10 +342,10 @@ impl Memory {
         count
     }
 
-    /// Copies what belongs to the map of so many entries, where a third of the forks no longer does.
-    pub fn leave_out(&mut self, len: usize) -> Result<(), Refused> {
+    /// Copies what belongs to the map of so many entries, where a third of the forks no longer does, and returns the memory of before.
+    pub fn leave_out(&mut self, len: usize) -> Result<Option<Memory>, Refused> {
         if self.head.forks < self.own_forks + self.own_forks / 2 + 1024 {
-            return Ok(());
+            return Ok(None);
         }
         let (mut entries, mut forks, mut head) = (Vec::new(), Vec::new(), sys::KeptMap::default());
         make_room(&mut entries, len, [0; 64])?;
@@ -368,10 +368,14 @@ impl Memory {
         if answer != 0 {
             return Err(Refused::of(answer));
         }
-        self.own_forks = head.forks;
-        self.lineage = lineage();
-        (self.entries, self.forks, self.head) = (entries, forks, head);
-        Ok(())
+        let copy = Memory {
+            head,
+            entries,
+            forks,
+            own_forks: head.forks,
+            lineage: lineage(),
+        };
+        Ok(Some(std::mem::replace(self, copy)))
     }
 
     /// Puts a value at a key, or removes it where there is none.

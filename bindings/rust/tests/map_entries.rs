@@ -5,11 +5,12 @@ use paxidore::{Digest, Map, Refused};
 use std::alloc::{GlobalAlloc, Layout, System};
 use std::cell::Cell;
 
-// Counts the bytes that the thread has, and the most that it had.
+// Counts the bytes that the thread has, and the most that it had. What has more bytes than the largest one is refused.
 struct Counted;
 
 thread_local! {
     static HELD: Cell<(isize, isize)> = const { Cell::new((0, 0)) };
+    static LARGEST: Cell<usize> = const { Cell::new(usize::MAX) };
 }
 
 fn count(bytes: isize) {
@@ -20,9 +21,15 @@ fn count(bytes: isize) {
     });
 }
 
-// SAFETY: each call is the system's.
+// SAFETY: each call is the system's, or is refused.
 unsafe impl GlobalAlloc for Counted {
     unsafe fn alloc(&self, layout: Layout) -> *mut u8 {
+        if LARGEST
+            .try_with(Cell::get)
+            .is_ok_and(|largest| layout.size() > largest)
+        {
+            return std::ptr::null_mut();
+        }
         count(layout.size() as isize);
         System.alloc(layout)
     }
@@ -157,15 +164,53 @@ fn the_memory_of_what_is_refused() -> Result<(), Refused> {
     let (why, most) = counted(|| refused(&bytes, &[9; 32]));
     assert_eq!(why, Refused::OtherRoot);
     assert!(most < 100_000, "{most} bytes");
-    // a map of hashes, which is made
+    Ok(())
+}
+
+#[test]
+fn the_memory_of_what_is_made() -> Result<(), Refused> {
     let map = map_of((0..15_000).step_by(3))?;
     let bytes = map.to_bytes();
     let (copy, most) = counted(|| Map::from_bytes(&bytes, map.root()));
     assert_eq!(copy?.root(), map.root());
-    assert!(
-        most < 500 * map.len(),
-        "{} bytes an entry",
-        most / map.len()
-    );
+    assert!(most < 500 * map.len(), "{most} bytes");
+    // one change of many keys leaves out what is no longer there, too
+    let changes: Vec<_> = map
+        .entries()
+        .into_iter()
+        .map(|(key, value)| (key, Some(value)))
+        .collect();
+    let mut other = Map::new();
+    let (done, most) = counted(|| other.change(&changes));
+    assert_eq!((done, other.root()), (Ok(()), map.root()));
+    assert!(most < 500 * map.len(), "{most} bytes");
+    let gone: Vec<_> = changes.iter().map(|(key, _)| (*key, None)).collect();
+    let (done, most) = counted(|| other.change(&gone));
+    assert_eq!((done, other.root()), (Ok(()), Map::new().root()));
+    assert!(most < 500 * map.len(), "{most} bytes");
+    Ok(())
+}
+
+#[test]
+fn a_change_that_finds_no_memory() -> Result<(), Refused> {
+    let mut map = map_of((0..900).step_by(3))?;
+    let (entries, root, old) = (map.entries(), *map.root(), map.version());
+    let changes: Vec<_> = (0..9_000)
+        .map(|n| (near(3 * n), (n % 7 != 0).then_some([3; 32])))
+        .collect();
+    // behind some copies of the map, and before the first one
+    for limit in [400_000, 60_000] {
+        LARGEST.set(limit);
+        let done = map.change(&changes);
+        LARGEST.set(usize::MAX);
+        assert_eq!(done, Err(Refused::Memory));
+        assert_eq!((map.entries(), map.root()), (entries.clone(), &root));
+        assert!(map.check()?);
+        assert!(map
+            .differences(&old)
+            .is_some_and(|mut rows| rows.next().is_none()));
+    }
+    map.change(&changes)?;
+    assert!(map.check()?);
     Ok(())
 }
