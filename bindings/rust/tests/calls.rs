@@ -221,3 +221,35 @@ fn others() {
     assert_eq!(cpu(), build.as_deref().unwrap_or(cpu()));
     assert_eq!(Refused::Size.to_string(), "no tree or log has this size");
 }
+
+#[test]
+fn several_entries_of_a_log() -> Result<(), paxidore::LogError> {
+    let mut log = Log::new();
+    let size = log.append(&ENTRIES)?;
+    let root = log.root(size)?;
+    for bits in 1..1usize << size {
+        let indexes: Vec<usize> = (0..size).filter(|index| bits >> index & 1 == 1).collect();
+        let mut given: Vec<&[u8]> = indexes.iter().map(|index| &ENTRIES[*index][..]).collect();
+        let proof = log.multi_inclusion(size, &indexes)?;
+        assert!(Log::verify_multi_inclusion(
+            &root, size, &indexes, &given, &proof
+        )?);
+        given[0] = b"another";
+        assert!(!Log::verify_multi_inclusion(
+            &root, size, &indexes, &given, &proof
+        )?);
+        given.pop();
+        let fewer = Log::verify_multi_inclusion(&root, size, &indexes, &given, &proof);
+        assert_eq!(fewer, Err(Refused::Count));
+    }
+    let refused = |size: usize, indexes: &[usize]| {
+        log.multi_inclusion(size, indexes)
+            .err()
+            .map(|it| it.to_string())
+    };
+    assert_eq!(refused(size, &[1, 0]), Some(Refused::Index.to_string()));
+    assert_eq!(refused(size, &[]), Some(Refused::Index.to_string()));
+    assert_eq!(refused(size, &[size]), Some(Refused::Index.to_string()));
+    assert_eq!(refused(size + 1, &[0]), Some(Refused::Size.to_string()));
+    Ok(())
+}
