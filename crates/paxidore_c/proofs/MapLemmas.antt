@@ -1,5 +1,5 @@
 -- What calls on maps show.
-use Rattle.std.proofs.Common.{◌≡◌, ◌⊎◌, inl, inr, ℤ, ℕ, List, Bool, true, Option, Result, Ok, Err, IfOk, IfSome, if◌then◌else◌, false, nat_lt, length, ap, sym, ◌∙◌, subst}
+use Rattle.std.proofs.Common.{◌≡◌, ◌⊎◌, inl, inr, ℕ, List, Bool, true, Option, Result, Ok, Err, IfOk, IfSome, if◌then◌else◌, false, nat_lt, length, ap, sym, ◌∙◌, subst}
 use Rattle.ark_base.specs.declared.error.Error.{Error}
 use Rattle.ark_base.specs.Laws.Steps.{done_injective}
 use Rattle.ark_base.specs.Outcome.{Outcome, ◌>>=◌, AnswersBy}

@@ -1,5 +1,5 @@
 -- One proof of several entries: what its codes tell.
-use Rattle.std.proofs.Common.{◌≡◌, ◌⊎◌, ℕ, ℤ, pos, w32, to_z, of_z, List, [], ◌∷◌, length, map, Bool, true, false, Result, Ok, Err, IfOk, eq-eqb, refl, ap, sym, ◌∙◌, inl, inr}
+use Rattle.std.proofs.Common.{◌≡◌, ◌⊎◌, ℕ, ℤ, pos, w32, to_z, of_z, List, [], ◌∷◌, length, map, Bool, true, Result, Ok, Err, IfOk, eq-eqb, refl, ap, sym, ◌∙◌, inl, inr}
 use Rattle.std.proofs.lemmas.List.{length-map}
 use Rattle.ark_base.specs.Outcome.{Outcome, Answers, ◌>>=◌}
 use Rattle.ark_paths.specs.Pair.{Digest}
@@ -13,7 +13,7 @@ use Rattle.paxidore_calls.specs.Cut.{parts_by}
 use Rattle.paxidore_calls.specs.KeptLog.{digest_hashes}
 use Rattle.paxidore_calls.specs.LogProofs.{proof_digests}
 use Rattle.paxidore_calls.specs.declared.refused.Refused.{Refused}
-use Rattle.paxidore_calls.specs.declared.refused.Refused.TheVariants.{Memory, Count, Index}
+use Rattle.paxidore_calls.specs.declared.refused.Refused.TheVariants.{Memory}
 use Rattle.paxidore_calls.proofs.Answering.{zero-says}
 use Rattle.paxidore_calls.proofs.KeptLogs.{Entries}
 use Rattle.paxidore_c.specs.LogMulti.{entries_at, entries_shown, if_rising}

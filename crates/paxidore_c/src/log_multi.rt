@@ -57,7 +57,13 @@ pub extern "C" fn paxidore_log_verify_multi_inclusion(
         Err(refused) => return refused.code(),
     };
     verdict_code(verify_multi_inclusion_bytes(
-        alloc, &DigestHasher, root, size, indexes, &digests, proof,
+        alloc,
+        &DigestHasher,
+        root,
+        size,
+        indexes,
+        &digests,
+        proof,
     ))
 }
 

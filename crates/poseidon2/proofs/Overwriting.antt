@@ -1,7 +1,6 @@
 -- Blocks that take the place of the front of a state.
-use Rattle.std.proofs.Common.{◌≡◌, ℕ, zero, ◌<◌, min, List, [], ◌∷◌, length, take, drop, fold, refl, sym, ap, ◌∙◌, arith}
+use Rattle.std.proofs.Common.{◌≡◌, ℕ, ◌<◌, min, List, [], ◌∷◌, length, take, drop, fold, sym, ap, ◌∙◌, arith}
 use Rattle.std.proofs.lemmas.List.{take_min, drop_min}
-use Rattle.ark_sponge.specs.Duplex.{blocks_of_rate}
 use Rattle.ark_sponge.proofs.Blocks.{blocks_of_rate-cons, blocks_of_rate-nil}
 use Rattle.poseidon2.specs.Modes.{overwritten, state_overwriting}
 

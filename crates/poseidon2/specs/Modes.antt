@@ -1,6 +1,6 @@
 -- How deployments hash with the permutation (Plonky3, `symmetric`): two digests by a permutation cut short, and lists
 -- by a sponge that pads nothing.
-use Rattle.std.specs.Prelude.{ℕ, ◌+◌, ◌-◌, ◌==◌, ◌&&◌, ◌||◌, nat_lt, Bool, if◌then◌else◌, List, ◌++◌, length, take, drop, fold, replicate, Ok, Err}
+use Rattle.std.specs.Prelude.{ℕ, ◌+◌, ◌-◌, ◌==◌, ◌&&◌, nat_lt, Bool, if◌then◌else◌, List, ◌++◌, length, take, drop, fold, replicate, Ok, Err}
 use Rattle.ark_base.specs.declared.error.Error.TheVariants.{GenericError}
 use Rattle.ark_base.specs.declared.error.Refusal.TheVariants.{ParameterShape}
 use Rattle.ark_base.specs.Outcome.{Outcome}

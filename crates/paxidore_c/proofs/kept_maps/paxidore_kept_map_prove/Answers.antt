@@ -1,4 +1,4 @@
-use Rattle.std.proofs.Common.{◌≡◌, subst, sym, w32, ◌∙◌}
+use Rattle.std.proofs.Common.{subst, sym, w32, ◌∙◌}
 use Rattle.std.proofs.lemmas.Int.{to_z-of_z}
 use Rattle.kept_map.proofs.Nexts.{ok-on}
 use Rattle.paxidore_c.specs.KeptMaps.{HandsSome, IsOwnProof, IsShownBy}

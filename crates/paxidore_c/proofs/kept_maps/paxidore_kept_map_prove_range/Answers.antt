@@ -1,4 +1,4 @@
-use Rattle.std.proofs.Common.{◌≡◌, subst, sym, w32, ◌∙◌}
+use Rattle.std.proofs.Common.{subst, sym, w32, ◌∙◌}
 use Rattle.std.proofs.lemmas.Int.{to_z-of_z}
 use Rattle.merkle_map.specs.Sha256.{sha256_map}
 use Rattle.kept_map.specs.Between.{IsBetween, IsTreeBetween}

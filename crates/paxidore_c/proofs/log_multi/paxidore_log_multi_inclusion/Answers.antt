@@ -29,10 +29,12 @@ returns-clause-given c =
     let same = c.size.ensures.size ∙ ap (λ kept. kept.size) c.in-Some.ensures.1 in (
       _,
       hands-given (all-rising c.args.size c.args.indexes.now c.args.kept.now _ c.in-Some.ensures.0
-      (rw same at rising)) fits c.hand_over_digests.ensures.handed,
+          (rw same at rising)) fits c.hand_over_digests.ensures.handed,
     )
 
 pub returns-in_default-vec-clause-given : goal.returns-in_default-vec-clause-given
-returns-in_default-vec-clause-given c =
-    ([], memory-hands _ c.args.proof.now c.args.proof_len.now c.code-in_default-vec.result
-    c.code-in_default-vec.ensures)
+returns-in_default-vec-clause-given c = (
+  [],
+  memory-hands _ c.args.proof.now c.args.proof_len.now c.code-in_default-vec.result
+      c.code-in_default-vec.ensures,
+)

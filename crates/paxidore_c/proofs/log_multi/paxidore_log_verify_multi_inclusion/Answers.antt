@@ -1,4 +1,4 @@
-use Rattle.std.proofs.Common.{◌≡◌, true, length, arith, sym, ◌∙◌}
+use Rattle.std.proofs.Common.{◌≡◌, true, arith, sym, ◌∙◌}
 use Rattle.merkle_log.specs.Multi.{are_multi_indexes}
 use Rattle.paxidore_calls.proofs.KeptLogs.{entries-of}
 use Rattle.paxidore_c.proofs.MultiLog.{multi-shown-gives, multi-shows-zero, no-entries-give}

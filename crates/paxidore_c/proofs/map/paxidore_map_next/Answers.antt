@@ -1,8 +1,6 @@
-use Rattle.std.proofs.Common.{◌≡◌, Ok, Some, None, IfOk, Option, refl, subst}
+use Rattle.std.proofs.Common.{Some, None, IfOk, subst}
 use Rattle.merkle_map.specs.Bytes.{tree_of_bytes}
-use Rattle.merkle_map.specs.Map.{Digest, Key}
-use Rattle.merkle_map.specs.Order.{HasNext, next_seen, pair_seen}
-use Rattle.paxidore_c.specs.Maps.{IsNextOf}
+use Rattle.merkle_map.specs.Order.{HasNext, pair_seen}
 use Rattle.paxidore_c.proofs.MapLemmas.{found-gives}
 use Rattle.paxidore_c.proofs.map.paxidore_map_next.Goals as goal
 

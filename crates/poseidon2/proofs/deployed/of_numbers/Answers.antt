@@ -1,4 +1,3 @@
-use Rattle.std.proofs.Common.{refl}
 use Rattle.poseidon2.proofs.Drawn.{numbers-answer}
 use Rattle.poseidon2.proofs.deployed.of_numbers.Goals as goal
 

@@ -1,4 +1,4 @@
-use Rattle.std.proofs.Common.{◌≡◌, ◌++◌, ◌∙◌, sym, ap, map, Ok, List, ℕ}
+use Rattle.std.proofs.Common.{◌++◌, ◌∙◌, sym, ap, Ok, List, ℕ}
 use Rattle.ark_base.specs.Outcome.{Outcome}
 use Rattle.poseidon2.proofs.ModeStates.{zeros-behind}
 use Rattle.poseidon2.proofs.modes.both_and_zeros.Goals as goal

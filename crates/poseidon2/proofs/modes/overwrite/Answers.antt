@@ -1,4 +1,4 @@
-use Rattle.std.proofs.Common.{◌≡◌, ◌++◌, sym, ap, ap₂, ◌∙◌, map, drop, length}
+use Rattle.std.proofs.Common.{◌++◌, sym, ap, ap₂, ◌∙◌, map, drop, length}
 use Rattle.std.proofs.lemmas.List.{map-append, drop-map}
 use Rattle.std.proofs.Math.ListN.{length-map}
 use Rattle.poseidon2.proofs.modes.overwrite.Goals as goal

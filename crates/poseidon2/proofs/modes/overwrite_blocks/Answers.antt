@@ -1,8 +1,7 @@
-use Rattle.std.proofs.Common.{◌≡◌, ◌∙◌, map, sym, ap, length, arith, rules}
+use Rattle.std.proofs.Common.{◌≡◌, ◌∙◌, map, sym, ap, length, rules}
 use Rattle.std.proofs.lemmas.Grind.{common_steps}
 use Rattle.std.proofs.lemmas.List.{take-map, drop-map}
 use Rattle.std.proofs.Math.ListN.{length-map}
-use Rattle.poseidon2.specs.Modes.{overwritten}
 use Rattle.poseidon2.specs.Permutation.{poseidon2_permutation}
 use Rattle.poseidon2.proofs.Overwriting.{overwriting-nil, overwriting-next}
 use Rattle.poseidon2.proofs.modes.overwrite_blocks.Goals as goal

@@ -1,4 +1,4 @@
-use Rattle.std.proofs.Common.{◌≡◌, ◌+◌, ◌≤◌, ◌∙◌, sym, ap, map, take, length, arith, Ok, List, ℕ}
+use Rattle.std.proofs.Common.{◌≡◌, ◌+◌, ◌≤◌, ◌∙◌, sym, ap, map, take, length, arith, List, ℕ}
 use Rattle.std.proofs.lemmas.List.{take_at}
 use Rattle.std.proofs.Math.ListN.{length-map}
 use Rattle.ark_base.specs.Laws.Steps.{done_injective}
