@@ -229,7 +229,7 @@ fn several_entries_of_a_log() -> Result<(), paxidore::LogError> {
     let root = log.root(size)?;
     for bits in 1..1usize << size {
         let indexes: Vec<usize> = (0..size).filter(|index| bits >> index & 1 == 1).collect();
-        let mut given: Vec<&[u8]> = indexes.iter().map(|index| &ENTRIES[*index][..]).collect();
+        let mut given: Vec<&[u8]> = indexes.iter().map(|index| ENTRIES[*index]).collect();
         let proof = log.multi_inclusion(size, &indexes)?;
         assert!(Log::verify_multi_inclusion(
             &root, size, &indexes, &given, &proof
