@@ -1,6 +1,6 @@
 //! The entries of a map as bytes, and the map of such bytes where it has the root that is trusted.
 
-use crate::map_memory::{digest_in, has_bit, NOTHING};
+use crate::map_memory::{digest_in, has_bit, hashed, NOTHING};
 use crate::{Digest, Map, Refused};
 
 // The bytes of an entry: its key, then its value.
@@ -17,14 +17,6 @@ fn shared_bits(key: &Digest, next: &Digest) -> Option<usize> {
     let place = key.iter().zip(next).position(|(own, other)| own != other)?;
     let apart = (key[place] ^ next[place]).leading_zeros() as usize;
     (key[place] < next[place]).then_some(8 * place + apart)
-}
-
-// The digest of a node: an entry, or a fork.
-fn hashed(kind: u8, first: &Digest, second: &Digest) -> Digest {
-    let mut node = [kind; 65];
-    node[1..33].copy_from_slice(first);
-    node[33..].copy_from_slice(second);
-    crate::sha256(&node)
 }
 
 // The root of the map of some entries; `Invalid` where their keys do not rise. It keeps a digest for each bit of a key at most, so that

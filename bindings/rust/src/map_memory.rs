@@ -32,14 +32,18 @@ impl Part<'_> {
     pub fn digest(&self) -> Digest {
         match self {
             Part::Nothing => NOTHING,
-            Part::Entry(entry) => {
-                let mut node = [0; 65];
-                node[1..].copy_from_slice(&entry[..]);
-                crate::sha256(&node)
-            }
+            Part::Entry(entry) => hashed(0, &entry[..32], &entry[32..]),
             Part::Fork(fork) => digest_in(&fork[..], 0),
         }
     }
+}
+
+// The digest of a node: of an entry by its key and its value behind 0, of a fork by its two sides' digests behind 1.
+pub fn hashed(kind: u8, first: &[u8], second: &[u8]) -> Digest {
+    let mut node = [kind; 65];
+    node[1..33].copy_from_slice(first);
+    node[33..].copy_from_slice(second);
+    crate::sha256(&node)
 }
 
 // 32 bytes of others.
