@@ -21,7 +21,7 @@ front-bytes b bytes small are zero = small
 front-bytes b bytes small are (suc i) = are i
 
 -- the bytes of a number are bytes
-bytes_of_number-bytes : (len n : ℕ) → IsBytes (bytes_of_number len n)
+pub bytes_of_number-bytes : (len n : ℕ) → IsBytes (bytes_of_number len n)
 unfolding bytes_of_number
 bytes_of_number-bytes zero n i = omega arith
 bytes_of_number-bytes (suc len) n i =

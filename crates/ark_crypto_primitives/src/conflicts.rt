@@ -16,14 +16,16 @@ ghost use Rattle.ark_crypto_primitives.specs.TreeRelations.{BoweHopwoodConflicts
 
 use ark_absorb::Absorb;
 use ark_base::error::Error;
-use ark_base::serialize::DigestItem;
+use ark_base::serialize::{DigestItem, Numbered};
 use ark_groups::ec::{AdditiveGroup, ToldByX};
+use ark_groups::ff::Field;
 use ark_paths::config::{ByteDigestConverter, Config};
 use ark_paths::path::Path;
 use ark_pedersen::injective_map::{
     InjectiveMap, PedersenCRHCompressor, PedersenTwoToOneCRHCompressor, TECompressor,
 };
 use ark_pedersen::{Parameters, Window};
+use jubjub::{Jubjub, JubjubFr};
 use std::alloc::Global;
 use std::fmt::Debug;
 use std::hash::Hash;
@@ -74,6 +76,16 @@ pub fn point_trees_bind<C: AdditiveGroup + DigestItem, W: Window, V: Window>()
         (width : ℕ) → HaveWidth view width
         → PointConflictsGiveRelations C.group C.ScalarField.MODULUS W.Window V.Window view }
 {}
+
+/// States the same of trees whose digests are elements of Jubjub, where nothing is left to ask: each has 64 canonical bytes.
+pub fn jubjub_trees_bind<W: Window, V: Window>()
+    ensures { let view = digest_view ⟦<Jubjub as Numbered>⟧.numbers
+        ⟦<Jubjub as DigestItem>⟧.numbers_of ⟦<Jubjub as DigestItem>⟧.bytes_of in
+        PointConflictsGiveRelations ⟦<Jubjub as AdditiveGroup>⟧.group
+        ⟦<JubjubFr as Field>⟧.MODULUS W.Window V.Window view }
+{
+    point_trees_bind::<Jubjub, W, V>();
+}
 
 /// States the same of trees over Bowe-Hopwood hashes, whose coefficients are whole numbers, at parameters as `setup` makes
 /// them: the order does not divide all of them.

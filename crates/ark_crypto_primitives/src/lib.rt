@@ -210,8 +210,8 @@ pub mod sponge {
 /// Merkle trees.
 pub mod merkle_tree {
     pub use crate::conflicts::{
-        CompressedTree, bowe_hopwood_trees_bind, is_conflict, node_trees_bind, pedersen_trees_bind,
-        point_trees_bind,
+        CompressedTree, bowe_hopwood_trees_bind, is_conflict, jubjub_trees_bind, node_trees_bind,
+        pedersen_trees_bind, point_trees_bind,
     };
     pub use ark_merkle::hasher::{ConfigHasher, Counting, TreeHasher};
     pub use ark_merkle::{
@@ -251,6 +251,16 @@ pub mod log {
         verify_multi_inclusion_bytes, verify_multi_inclusion_digests,
     };
     pub use signed_notes;
+
+    /// LeanIMTs: logs over circomlib's hash of two, whose stored digests lie in the caller's memory.
+    pub mod lean_imt {
+        pub use circom::{
+            CircomNodes, CircomTable, NoElement, NodeRefusal, appended_digests, are_elements,
+            change_element, circom_table, inclusion_path, is_element, kept_log_root,
+            path_of_elements, root_of_elements,
+        };
+        pub use merkle_log::kept::Kept;
+    }
 }
 
 /// Maps from keys of 32 bytes to values of 32 bytes, with proofs of what they have at a key and of what they have not.
