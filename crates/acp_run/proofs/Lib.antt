@@ -1,6 +1,7 @@
 pub mod FirstLine
 pub mod Runs
 pub mod HeldBack
+pub mod Hexadecimal
 pub mod LeafChanges
 pub mod Counts
 pub mod Cutting

@@ -1,9 +1,13 @@
 -- What tokens say.
-use Rattle.std.specs.Prelude.{ℕ, nat_lt, length, List, [], if◌then◌else◌, Option, Some, None, codes}
+use Rattle.std.specs.Prelude.{ℕ, nat_lt, length, List, [], if◌then◌else◌, Option, Some, None, codes, unwrap_or}
 use Rattle.std.specs.Str.{bytes_eq}
 use Rattle.std.specs.Result.{result_ok}
-use Rattle.hex.specs.Hex.{decode_of}
+use Rattle.hex.specs.Hex.{decode_of, hex_digit_value}
 use Rattle.ark_base.specs.Digits.{number_of_bytes}
+
+-- the number of a hexadecimal digit of either case, or 255
+abbrev pub digit_number : ℕ → ℕ
+digit_number digit = unwrap_or (hex_digit_value digit) 255
 
 -- the bytes that a token spells in hexadecimal, one or more
 abbrev pub some_bytes_of : List ℕ → Option (List ℕ)

@@ -4,6 +4,7 @@ pub mod answer;
 mod arguments;
 mod changes;
 mod checks;
+mod hexadecimal;
 mod proofs;
 mod replies;
 mod request;

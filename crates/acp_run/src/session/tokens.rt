@@ -5,8 +5,8 @@ ghost use Rattle.std.specs.Option.{option_map, option_copied};
 ghost use Rattle.acp_run.specs.Lines.{tokens_of, tokens_left};
 ghost use Rattle.acp_run.specs.Tokens.{number_of_token, some_bytes_of};
 
+use crate::session::hexadecimal::write_bytes;
 use ark_base::serialize::number_of;
-use hex::FromHexError;
 use memchr::memchr;
 use std::alloc::{AllocError, Global};
 
@@ -41,13 +41,14 @@ pub fn some_bytes_of(alloc: Global, token: &[u8]) -> Result<Option<Vec<u8>>, All
     ensures { IfOk result (λ bytes.
         option_map (λ bytes. bytes.items) bytes ≡ some_bytes_of token.now) }
 {
-    if token.is_empty() {
+    if token.is_empty() || token.len() % 2 == 1 {
         return Ok(None);
     }
-    match hex::decode(alloc, token) {
-        Ok(bytes) => Ok(Some(bytes)),
-        Err(FromHexError::OutOfMemory) => Err(AllocError),
-        Err(_) => Ok(None),
+    let mut bytes = vec![in alloc; 0u8; token.len() / 2]?;
+    if write_bytes(token, &mut bytes) {
+        Ok(Some(bytes))
+    } else {
+        Ok(None)
     }
 }
 
