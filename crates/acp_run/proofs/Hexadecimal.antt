@@ -1,12 +1,13 @@
 -- Bytes that digits spell in hexadecimal.
-use Rattle.std.proofs.Common.{◌≡◌, ℕ, suc, ◌+◌, ◌-◌, ◌*◌, ◌<◌, ◌≤◌, Bool, true, false, cond, List, [], ◌∷◌, ◌++◌, length}
-use Rattle.std.proofs.Common.{get_or, set, take, drop, Option, Some, None, Result, Ok, Err, refl, sym, ◌∙◌, ap, subst, arith, append_assoc}
+use Rattle.std.proofs.Common.{◌≡◌, ℕ, suc, ◌+◌, ◌-◌, ◌*◌, ◌/◌, ◌%◌, ◌<◌, ◌≤◌, Bool, true, false, cond, List, [], ◌∷◌, ◌++◌, length}
+use Rattle.std.proofs.Common.{get_or, set, take, drop, Option, Some, None, Result, Ok, Err, refl, sym, ◌∙◌, ap, ap₂, subst, arith, append_assoc}
 use Rattle.std.specs.Prelude.{nat_le, ◌&&◌, unwrap_or}
 use Rattle.std.specs.Result.{result_ok}
 use Rattle.std.proofs.Math.Seq.{drop-cons}
-use Rattle.std.proofs.lemmas.List.{append-nil, drop_all, take_all, take_more_set}
+use Rattle.std.proofs.Math.ListN.{length-set}
+use Rattle.std.proofs.lemmas.List.{append-nil, drop_all, take_all, take_more, take_more_set}
 use Rattle.std.proofs.lemmas.Bool.Decides.{nat_tests}
-use Rattle.hex.specs.Hex.{decode_pairs, digit_or_error, hex_digit_value, ◌>>=◌}
+use Rattle.hex.specs.Hex.{decode_pairs, digit_or_error, encode_with, hex_digit_value, lower_digits, ◌>>=◌}
 use Rattle.hex.specs.declared.error.FromHexError.{FromHexError}
 use Rattle.acp_run.specs.Tokens.{digit_number}
 
@@ -147,3 +148,49 @@ pub written-all : (digits bytes : List ℕ) (i : ℕ) → length digits ≡ 2 * 
 written-all digits bytes i fits e written =
     written.some [] (ap (spelled (2 * i)) (drop_all (2 * i) digits (omega arith)) ∙ nothing_spelled (2 * i))
     ∙ ap Some (append-nil (take i bytes) ∙ take_all i bytes (omega arith))
+
+-- ---- digits of bytes
+
+encode_with-append : (t xs : List ℕ) (b : ℕ)
+    → encode_with t (xs ++ (b ∷ [])) ≡ encode_with t xs ++ (get_or t (b / 16) 0 ∷ get_or t (b % 16) 0 ∷ [])
+unfolding encode_with
+encode_with-append t [] b = refl
+encode_with-append t (x ∷ xs) b =
+    ap (λ rest. get_or t (x / 16) 0 ∷ get_or t (x % 16) 0 ∷ rest) (encode_with-append t xs b)
+
+-- the digits of the first bytes, once so many are written
+pub record AreSpelled (bytes digits : List ℕ) (i : ℕ) : Type 0 where
+  pub front : take (2 * i) digits ≡ encode_with lower_digits (take i bytes)
+
+pub spelled-first : (bytes digits : List ℕ) → AreSpelled bytes digits 0
+unfolding encode_with
+spelled-first bytes digits = record { front = refl }
+
+take_two_set : (s : List ℕ) (k a b : ℕ) → k + 1 < length s
+    → take (k + 2) (set (set s k a) (k + 1) b) ≡ take k s ++ (a ∷ b ∷ [])
+take_two_set s k a b l =
+    let two : k + 1 + 1 ≡ k + 2 = omega arith in
+    ap (λ n. take n (set (set s k a) (k + 1) b)) (sym two)
+    ∙ take_more_set (set s k a) (k + 1) b (omega (arith, length-set {A = ℕ}))
+    ∙ ap (λ front. front ++ (b ∷ [])) (take_more_set s k a (omega arith))
+    ∙ append_assoc (take k s) (a ∷ []) (b ∷ [])
+
+pub spelled-next : (bytes digits : List ℕ) (i high low : ℕ) → length digits ≡ 2 * length bytes → i < length bytes
+    → high ≡ get_or lower_digits (get_or bytes i 0 / 16) 0 → low ≡ get_or lower_digits (get_or bytes i 0 % 16) 0
+    → AreSpelled bytes digits i → AreSpelled bytes (set (set digits (2 * i) high) (2 * i + 1) low) (i + 1)
+spelled-next bytes digits i high low fits l is_high is_low spelled = record {
+  front =
+      let next : 2 * (i + 1) ≡ 2 * i + 2 = omega arith in
+      ap (λ n. take n (set (set digits (2 * i) high) (2 * i + 1) low)) next
+      ∙ take_two_set digits (2 * i) high low (omega arith)
+      ∙ ap (λ front. front ++ (high ∷ low ∷ [])) spelled.front
+      ∙ ap₂ (λ h k. encode_with lower_digits (take i bytes) ++ (h ∷ k ∷ [])) is_high is_low
+      ∙ sym (encode_with-append lower_digits (take i bytes) (get_or bytes i 0))
+      ∙ ap (encode_with lower_digits) (sym (take_more bytes i 0 l));
+}
+
+pub spelled-all : (bytes digits : List ℕ) (i : ℕ) → length digits ≡ 2 * length bytes → i ≡ length bytes
+    → AreSpelled bytes digits i → digits ≡ encode_with lower_digits bytes
+spelled-all bytes digits i fits e spelled =
+    sym (take_all (2 * i) digits (omega arith)) ∙ spelled.front
+    ∙ ap (encode_with lower_digits) (take_all i bytes (omega arith))

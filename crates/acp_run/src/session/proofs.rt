@@ -98,6 +98,9 @@ impl<P: Config> Proof for MultiPath<P> {
         P.LeafDigest.reads P.InnerDigest.reads bytes fault };
 }
 
+// For how many bytes of a proof room is made at first: those of a path of 24 digests of 32 bytes.
+const PROOF_ROOM: usize = 1024;
+
 /// Returns the canonical bytes of a proof. The only error is `OutOfMemory`.
 pub fn proof_bytes<T: Proof + CanonicalSerialize>(
     alloc: Global,
@@ -105,7 +108,7 @@ pub fn proof_bytes<T: Proof + CanonicalSerialize>(
 ) -> Result<Vec<u8>, Error>
     ensures { AnswersBy (λ bytes. bytes.items) (Ok (T.bytes_of (T.numbers proof.now))) result }
 {
-    let mut bytes = Vec::new(alloc);
+    let mut bytes = Vec::with_capacity(alloc, PROOF_ROOM)?;
     proof.serialize(&mut bytes)?;
     Ok(bytes)
 }

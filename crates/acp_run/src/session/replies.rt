@@ -5,6 +5,7 @@ ghost use Rattle.std.specs.Fmt.{decimal};
 ghost use Rattle.hex.specs.Hex.{encode_lower};
 ghost use Rattle.acp_run.specs.Replies.{Refused, finding_reply, text};
 
+use crate::session::hexadecimal::write_digits;
 use ark_base::error::Error;
 use ark_merkle::Binding;
 use std::alloc::{AllocError, Global};
@@ -71,7 +72,9 @@ pub fn built(alloc: Global, size: usize, height: usize) -> Result<Vec<u8>, Alloc
 pub fn with_hex(alloc: Global, word: &[u8], bytes: &[u8]) -> Result<Vec<u8>, AllocError>
     ensures { IfOk result (λ reply. reply.items ≡ word.now ++ encode_lower bytes.now) }
 {
-    let mut reply = plain(alloc, word)?;
+    let room = word.len().saturating_add(bytes.len().saturating_mul(2));
+    let mut reply = Vec::with_capacity(alloc, room)?;
+    reply.extend_from_slice(word)?;
     push_hex(&mut reply, bytes)?;
     Ok(reply)
 }
@@ -89,8 +92,6 @@ pub fn push_hex(dest: &mut Vec<u8>, bytes: &[u8]) -> Result<(), AllocError>
         return Err(AllocError);
     };
     dest.resize(end, 0)?;
-    match hex::encode_to_slice(bytes, &mut dest[start..]) {
-        Ok(()) => Ok(()),
-        Err(_) => Err(AllocError),
-    }
+    write_digits(bytes, &mut dest[start..]);
+    Ok(())
 }

@@ -17,13 +17,17 @@ use ark_crh::{CRHScheme, TwoToOneCRHScheme};
 use ark_merkle::{MerkleTree, Views};
 use std::alloc::{AllocError, Global};
 
+// How many bytes the reply to `root` has for a root of 32 bytes.
+const ROOT_REPLY: usize = 69;
+
 /// Returns the reply to `root`.
 pub fn root_reply<C: Shell>(alloc: Global, tree: &MerkleTree<C>) -> Result<Vec<u8>, AllocError>
     ensures { IfOk result (λ reply. (p : C.LeafHash.Parameters) (q : C.TwoToOneHash.Parameters)
         → Tells (shown_root (C.language p q).root_bytes
         (root (⟦<C as Views>⟧.pair tree.now.pair_parameters) tree.now.leaves)) reply.items) }
 {
-    let mut reply = plain(alloc, b"root ")?;
+    let mut reply = Vec::with_capacity(alloc, ROOT_REPLY)?;
+    reply.extend_from_slice(b"root ")?;
     C::show_root(tree.root(), &mut reply)?;
     Ok(reply)
 }

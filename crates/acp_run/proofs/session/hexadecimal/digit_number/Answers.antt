@@ -1,4 +1,4 @@
-use Rattle.std.proofs.Common.{ap, ◌∙◌, get_or, arith, refl}
+use Rattle.std.proofs.Common.{ap, ◌∙◌, get_or, arith}
 use Rattle.std.proofs.lemmas.List.FromFn.{get_or-map-range_with_len}
 use Rattle.acp_run.specs.Tokens.{digit_number}
 use Rattle.acp_run.proofs.session.hexadecimal.digit_number.Goals as goal

@@ -4,13 +4,13 @@ use Rattle.acp_run.proofs.Hexadecimal.{IsWritten, high_is_none, low_is_none, wri
 use Rattle.acp_run.proofs.session.hexadecimal.write_bytes.Goals as goal
 use Rattle.acp_run.proofs.session.hexadecimal.write_bytes.Goals.{then-high-gt15-via-then-high-gt15, then-high-gt15-via-else-high-gt15+then-low-gt15}
 
-pub returns-then-high-gt15-clause-some : goal.returns-then-high-gt15-clause-some
-returns-then-high-gt15-clause-some c =
+pub returns-then-high-gt15-clause-none : goal.returns-then-high-gt15-clause-none
+returns-then-high-gt15-clause-none c =
     let i = c.loop-i.i in
     let fits : length c.args.digits.now ≡ 2 * length c.loop-i.bytes = omega arith in
     let below : i < length c.loop-i.bytes = omega arith in
     λ _. elim c.then-high-gt15.branch [
-      then-high-gt15-via-then-high-gt15 w ↦
+      | then-high-gt15-via-then-high-gt15 w ↦
           high_is_none c.args.digits.now c.loop-i.bytes i fits below c.loop-i.invariant
           (subst (λ n. 15 < n) c.digit_number-high.ensures w.if-high-gt15.true)
       | then-high-gt15-via-else-high-gt15+then-low-gt15 w ↦

@@ -1,4 +1,3 @@
-use Rattle.std.proofs.Common.{◌≡◌, ◌*◌, length}
 use Rattle.acp_run.proofs.Hexadecimal.{IsWritten}
 use Rattle.acp_run.proofs.session.hexadecimal.write_bytes.Given as goal
 
