@@ -1,4 +1,4 @@
-use Rattle.std.proofs.Common.{◌≡◌, ◌+◌, ◌-◌, ◌*◌, ◌%◌, ◌∙◌, ap}
+use Rattle.std.proofs.Common.{◌+◌, ◌-◌, ◌*◌, ◌%◌, ◌∙◌, ap}
 use Rattle.std.proofs.lemmas.Option.{IfSome_then}
 use Rattle.jubjub.specs.Jubjub.{p, d}
 use Rattle.jubjub.specs.Values.{value}
