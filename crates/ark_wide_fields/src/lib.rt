@@ -26,5 +26,7 @@ pub use moduli::{
 };
 pub use modulus::{PrimeModulus, WideModulus, byte_len};
 pub use powers::{is_zero, power, squared};
-pub use prime::{InvertibleField, inverse, quotient, square_root};
-pub use words::{ZERO, is_below, is_nothing, is_odd, low_bits, plus, read_below, words_of};
+pub use prime::{InvertibleField, inverse, quotient, root_of_quotient, square_root};
+pub use words::{
+    ZERO, highest_digit, is_below, is_nothing, is_odd, low_bits, plus, read_below, words_of,
+};

@@ -8,7 +8,7 @@ ghost use Rattle.jubjub.specs.Values.{value};
 
 use crate::extended::coefficient;
 use ark_groups::ff::Field;
-use ark_wide_fields::{Bls12_381Fr, is_odd, is_zero, prime_inverse, square_root};
+use ark_wide_fields::{Bls12_381Fr, is_odd, is_zero, root_of_quotient};
 
 // The root of the given parity, by one of the two roots. `None` where the roots are 0 and the parity is odd.
 fn of_parity(root: Bls12_381Fr, odd: bool) -> Option<Bls12_381Fr>
@@ -26,15 +26,15 @@ fn of_parity(root: Bls12_381Fr, odd: bool) -> Option<Bls12_381Fr>
     }
 }
 
-// The square of the first coordinate of each point over y: (y^2 - 1) / (1 + d y^2).
-fn square_over(y: Bls12_381Fr) -> Bls12_381Fr
-    ensures point { (x : ℕ) → x * x % p ≡ value result → IsOver (value y) x }
-    ensures square { (x : ℕ) → IsOver (value y) x → x * x % p ≡ value result }
+// A first coordinate of the points over y: a root of (y^2 - 1) / (1 + d y^2). `None` where there is no such point.
+fn root_over(y: Bls12_381Fr) -> Option<Bls12_381Fr>
+    ensures some { IfSome result (λ x. IsOver (value y) (value x)) }
+    ensures none { IsNone result → (x : ℕ) → IsOver (value y) x → ⊥ }
 {
     let square = y.mul(y);
     let numerator = square.sub(Bls12_381Fr::one());
     let denominator = Bls12_381Fr::one().add(coefficient().mul(square));
-    numerator.mul(prime_inverse(denominator))
+    root_of_quotient(numerator, denominator)
 }
 
 /// Returns the first coordinate of this parity of a point over y. `None` where there is no such point.
@@ -44,5 +44,5 @@ pub fn first_over(y: Bls12_381Fr, odd: bool) -> Option<Bls12_381Fr>
     ensures none { IsNone result
         → (x : ℕ) → IsOnJubjub (record { x = x; y = value y }) → x % 2 ≡ from_bool odd → ⊥ }
 {
-    of_parity(square_root(square_over(y))?, odd)
+    of_parity(root_over(y)?, odd)
 }

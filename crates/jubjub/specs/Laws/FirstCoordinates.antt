@@ -157,7 +157,7 @@ module _ (m d : ℕ) (f : HasInverses m) (y : ℕ) (some : (1 + d * (y * y)) % m
         ∙ sums m 1 1 c (d * (y * y)) refl (ap (λ t. t % m) is_c ∙ again (d * s) m
         ∙ products m d d s (y * y) refl (ap (λ t. t % m) is_s ∙ again (y * y) m))
 
-    k_some : k % m ≡ 0 → ⊥
+    pub k_some : k % m ≡ 0 → ⊥
     k_some e = some (sym k_is ∙ e)
 
     n_is : (n + 1) % m ≡ y * y % m
@@ -171,37 +171,20 @@ module _ (m d : ℕ) (f : HasInverses m) (y : ℕ) (some : (1 + d * (y * y)) % m
     x_times : (x : ℕ) → x * x * k % m ≡ x * x * (1 + d * (y * y)) % m
     x_times x = products m (x * x) (x * x) k (1 + d * (y * y)) refl k_is
 
-    -- the numerator times an inverse of the denominator
-    module _ (r i : ℕ) (inverts : (k ≡ 0 → ⊥) → k * i % m ≡ 1) (is_r : r ≡ n * i % m) where
-      one : k * i % m ≡ 1
-      one = inverts (λ none. k_some (ap (λ t. t % m) none ∙ zero-mod m))
+    n_below : n % m ≡ n
+    n_below = ap (λ t. t % m) is_n ∙ again (s + (m - 1)) m ∙ sym is_n
 
-      r_times : r * k % m ≡ n % m
-      r_times =
-          ap (λ t. t * k % m) is_r ∙ mul-mod_first (n * i) k m ∙ ap (λ t. t % m) (turn n i k)
-          ∙ products m n n (k * i) 1 refl (one ∙ sym (mod-eq_of_lt (omega (arith, f.two))))
-          ∙ ap (λ t. t % m) (once n)
-        where
-          turn : (n i k : ℕ) → n * i * k ≡ n * (k * i)
-          turn n i k = omega arith
+    -- what is a root of the numerator by the denominator is a first coordinate over y
+    pub over_from : (x : ℕ) → x * x * k % m ≡ n → (x * x + 1 + d * x * x * y * y) % m ≡ y * y % m
+    over_from x e =
+        ap (λ t. t % m) (sym (apart x))
+        ∙ sums m (x * x * (1 + d * (y * y))) n 1 1 (sym (x_times x) ∙ e ∙ sym n_below) refl ∙ n_is
 
-          once : (n : ℕ) → n * 1 ≡ n
-          once n = omega arith
-
-      pub over_from : (x : ℕ) → x * x % m ≡ r → (x * x + 1 + d * x * x * y * y) % m ≡ y * y % m
-      over_from x e =
-          ap (λ t. t % m) (sym (apart x))
-          ∙ sums m (x * x * (1 + d * (y * y))) n 1 1 (sym (x_times x)
-          ∙ multiples m (x * x) r k (e ∙ ap (λ t. t) (sym below)) ∙ r_times) refl ∙ n_is
-        where
-          below : r % m ≡ r
-          below = ap (λ t. t % m) is_r ∙ again (n * i) m ∙ sym is_r
-
-      pub over_square : (x : ℕ) → (x * x + 1 + d * x * x * y * y) % m ≡ y * y % m → x * x % m ≡ r
-      over_square x on =
-          cancelled m f (x * x) r k k_some (x_times x
-          ∙ cancel_one m (x * x * (1 + d * (y * y))) n positive (ap (λ t. t % m) (apart x) ∙ on ∙ sym n_is)
-          ∙ sym r_times) ∙ ap (λ t. t % m) is_r ∙ again (n * i) m ∙ sym is_r
+    -- and the other way round
+    pub over_root : (x : ℕ) → (x * x + 1 + d * x * x * y * y) % m ≡ y * y % m → x * x * k % m ≡ n
+    over_root x on =
+        x_times x ∙ cancel_one m (x * x * (1 + d * (y * y))) n positive (ap (λ t. t % m) (apart x) ∙ on ∙ sym n_is)
+        ∙ n_below
 
 -- ---- Jubjub
 

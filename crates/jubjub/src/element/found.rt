@@ -2,29 +2,31 @@
 
 ghost use Rattle.std.specs.Prelude.{◌≡◌};
 ghost use Rattle.std.specs.Int.{from_bool};
+ghost use Rattle.ark_groups.specs.Group.{times};
+ghost use Rattle.jubjub.specs.Edwards.{Coordinates};
+ghost use Rattle.jubjub.specs.Extended.{Stands};
+ghost use Rattle.jubjub.specs.Jubjub.{curve, IsOnJubjub};
 ghost use Rattle.jubjub.specs.Values.{value};
 ghost use Rattle.jubjub.specs.Decoding.{cleared_over};
 ghost use Rattle.jubjub.specs.Draws.{element_draw};
 
 use crate::decoding::first_over;
 use crate::element::Jubjub;
-use crate::extended::lifted;
-use crate::multiple::public_multiple;
-use ark_groups::ff::{UniformRand, Words};
+use crate::extended::{Extended, lifted};
+use ark_groups::ff::UniformRand;
 use ark_wide_fields::Bls12_381Fr;
-use edwards::is_neutral;
+use edwards::{doubled, doubled_twice, is_neutral};
 use rand::Rng;
 
 // How many points over drawn coordinates are tried.
 const TRIES: u32 = 128;
 
-// How many points of the curve there are for each element of the subgroup.
-const COFACTOR: Words = Words {
-    w0: 8,
-    w1: 0,
-    w2: 0,
-    w3: 0,
-};
+// The point, eight times: as often as there are points of the curve for each element of the subgroup.
+fn eight_times(a: Extended) -> Extended
+    ensures { (s : Coordinates) → IsOnJubjub s → Stands a s → Stands result (times curve 8 s) }
+{
+    doubled(doubled_twice(a))
+}
 
 /// Returns 8 times the point over y with a first coordinate of this parity, which is an element. `None` where there is
 /// no such point, or where that is zero.
@@ -32,7 +34,7 @@ pub fn cleared_over(y: Bls12_381Fr, odd: bool) -> Option<Jubjub>
     ensures { result ≡ cleared_over (value y) (from_bool odd) }
 {
     let x = first_over(y, odd)?;
-    let cleared = public_multiple(lifted(x, y), COFACTOR);
+    let cleared = eight_times(lifted(x, y));
     if is_neutral(cleared) {
         return None;
     }

@@ -23,13 +23,13 @@ returns-then-is_neutral c =
     let a : Coordinates = record { x = x; y = value c.args.y } in
     sym (zero_over (value c.args.y) (from_bool c.args.odd) x on c.in_ok-x.ensures.parity
     ((c.is_neutral.ensures d jubjub_is_complete (times curve 8 a) (cofactor_clears a on).on_curve
-    (c.public_multiple-cleared.ensures a on c.lifted.ensures)).0 c.if-is_neutral.true))
+    (c.eight_times-cleared.ensures a on c.lifted.ensures)).0 c.if-is_neutral.true))
 
 pub of_extended-requires : goal.of_extended-requires
 of_extended-requires c =
     let on = c.in_ok-x.ensures.some in
     let a : Coordinates = record { x = value c.in_ok-x.x; y = value c.args.y } in
-    (times curve 8 a, cofactor_clears a on, c.public_multiple-cleared.ensures a on c.lifted.ensures)
+    (times curve 8 a, cofactor_clears a on, c.eight_times-cleared.ensures a on c.lifted.ensures)
 
 pub returns : goal.returns
 returns c =
@@ -38,7 +38,7 @@ returns c =
     let a : Coordinates = record { x = x; y = value c.args.y } in
     let b : Coordinates = times curve 8 a in
     let inside = cofactor_clears a on in
-    let stands = c.public_multiple-cleared.ensures a on c.lifted.ensures in
+    let stands = c.eight_times-cleared.ensures a on c.lifted.ensures in
     sym (found_over (value c.args.y) (from_bool c.args.odd) x on c.in_ok-x.ensures.parity
     (unless c.is_neutral.result (c.is_neutral.ensures d jubjub_is_complete b inside.on_curve stands)
     c.if-is_neutral.false) inside
