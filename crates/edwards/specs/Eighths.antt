@@ -28,29 +28,31 @@ pub record HasEighths (p d i : ℕ) : Type 0 where
   pub is_class : power_mod p 255 (2 * spread * (2 * spread)) eighth ≡ class
 
 -- the first coordinate, turned: X = i x has X^2 = -x^2
-abbrev pub turned : ℕ → Coordinates → ℕ
-turned i a = i * a.x
+abbrev pub quarter_turn : ℕ → Coordinates → ℕ
+quarter_turn i a = i * a.x
 
 -- the tangent at a point of order 8, which is 0 there twice and at (X, Y) = (-1, 0): 1 + X + Y + slope X Y
 abbrev pub tangent : ℕ → ℕ → Coordinates → ℕ
-tangent i slope a = 1 + a.y + turned i a * (1 + slope * a.y)
+tangent i slope a = 1 + a.y + quarter_turn i a * (1 + slope * a.y)
 
 -- 1 - y^2
-abbrev pub rest : ℕ → Coordinates → ℕ
-rest p a = 1 + (p - a.y * a.y % p)
+abbrev pub second_factor : ℕ → Coordinates → ℕ
+second_factor p a = 1 + (p - a.y * a.y % p)
 
 -- X (1 + X)
-abbrev pub middle : ℕ → Coordinates → ℕ
-middle i a = turned i a * (1 + turned i a)
+abbrev pub first_factor : ℕ → Coordinates → ℕ
+first_factor i a = quarter_turn i a * (1 + quarter_turn i a)
 
 abbrev squared : ℕ → ℕ
 squared n = n * n
 
 -- The value at a point of the function with the tangent's fourth power over (1 - Y)^3 (1 + Y) X^2 (1 + X)^2, whose zero
--- at a point of order 8 is an eightfold one; times the eighth power of (1 - Y) (1 + Y) X (1 + X), so that nothing divides.
+-- at a point of order 8 is an eightfold one; times the eighth power of (1 - Y) (1 + Y) X (1 + X), so that nothing
+-- divides.
 abbrev pub telling : ℕ → ℕ → ℕ → Coordinates → ℕ
 telling p i slope a =
-    squared (squared (tangent i slope a * rest p a * middle i a)) * squared (middle i a * (1 + a.y)) * rest p a
+    squared (squared (tangent i slope a * second_factor p a * first_factor i a)) * squared (first_factor i a *
+    (1 + a.y)) * second_factor p a
 
 -- the power (p - 1) / 8 of the value is that of 4 (1 + d): but for this factor, the value is an eighth power
 abbrev pub IsTold : (p d i : ℕ) → HasEighths p d i → Coordinates → Type 0
@@ -60,7 +62,8 @@ IsTold p d i h a = telling p i h.slope a ^ h.eighth % p ≡ h.class
 abbrev pub IsEightTimes : ℕ → ℕ → Coordinates → Type 0
 IsEightTimes p d a = (b : Coordinates) × IsOnCurve p d b × (times (edwards p d) 8 b ≡ a)
 
--- of a point with no coordinate 0: what is told is 8 times a point, and what is 8 times a point is told, unless the second
+-- of a point with no coordinate 0: what is told is 8 times a point, and what is 8 times a point is told, unless the
+-- second
 -- coordinate of its double is 0
 abbrev pub EighthPowersTell : Type 0
 EighthPowersTell = (p d : ℕ) (k : IsComplete p d) (h : HasEighths p d k.root) (a : Coordinates) → IsOnCurve p d a

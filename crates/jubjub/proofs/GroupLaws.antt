@@ -30,12 +30,3 @@ made_is e f x y a is_x is_y made of_f = same_element e f (made_at e x y a is_x i
 
 pub times_in_subgroup : (n : ℕ) (a : Jubjub) → IsInSubgroup (times curve n (coordinates a))
 times_in_subgroup n a = subst IsInSubgroup (coordinates-times n a) ((times jubjub n a).in_subgroup)
-
--- ---- the test of the subgroup
-
-pub order_shows : (a : Coordinates) → IsOnJubjub a → (m : Extended) (k : ℕ) (b : Bool) → k ≡ order
-    → Stands m (times curve k a) → ((s : Coordinates) → IsOnJubjub s → Stands m s → Decides b (s ≡ neutral))
-    → Decides b (times curve order a ≡ neutral)
-order_shows a on m k b is_order of_m test =
-    test (times curve order a) (multiple_on_curve order a on)
-    (subst (λ n. Stands m (times curve n a)) is_order of_m)

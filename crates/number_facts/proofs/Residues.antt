@@ -69,7 +69,8 @@ module _ (m g n : ℕ) (fs : List ℕ) (c : IsGenerator m g n fs) where
               let split : i ≡ q * suc k = sym (mul-div_cancel_left i {n = suc e} (omega arith))
               ∙ ap (λ t. t / suc e) (sym is_i ∙ ap (λ t. q * t) (sym is_n) ∙ turn q (suc e) (suc k))
               ∙ mul-div_cancel_left (q * suc k) {n = suc e} (omega arith) in
-              ap (λ t. t / suc k * suc k) split ∙ ap (λ t. t * suc k) (mul-div_cancel q {n = suc k} (omega arith)) ∙ sym split
+              ap (λ t. t / suc k * suc k) split ∙ ap (λ t. t * suc k) (mul-div_cancel q {n = suc k} (omega arith))
+              ∙ sym split
             where
               turn : (q e k : ℕ) → q * (e * k) ≡ e * (q * k)
               turn q e k = omega arith
@@ -106,7 +107,8 @@ module _ (m g n : ℕ) (fs : List ℕ) (c : IsGenerator m g n fs) where
           let w : ℕ = log_b.0 / 2 in
           let r : ℕ = g ^ (u + w + 1) in
           let whole_power : r * r % m ≡ a * b % m =
-          ap (λ t. t % m) (sym (pow-add g (u + w + 1) (u + w + 1)) ∙ ap (λ t. g ^ t) (regroup u w log_a.0 log_b.0 odd odd')
+          ap (λ t. t % m) (sym (pow-add g (u + w + 1) (u + w + 1)) ∙ ap (λ t. g ^ t)
+          (regroup u w log_a.0 log_b.0 odd odd')
           ∙ pow-add g log_a.0 log_b.0) ∙ products m (g ^ log_a.0) a (g ^ log_b.0) b log_a.1 log_b.1 in
           let none : r % m ≡ 0 =
           no_root m g n fs c d h twice pos big euler r v (ap (λ t. t % m) (mul_comm d (r * r))

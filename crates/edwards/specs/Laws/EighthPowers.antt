@@ -32,7 +32,8 @@ module _ (p d : ℕ) (k : IsComplete p d) (h : HasEighths p d k.root) where
   pos = some_modulus p f
 
   pub fourth_some : (n : ℕ) → (n % p ≡ 0 → ⊥) → to_fourth n % p ≡ 0 → ⊥
-  fourth_some n some = product_some p f (n * n) (n * n) (product_some p f n n some some) (product_some p f n n some some)
+  fourth_some n some = product_some p f (n * n) (n * n) (product_some p f n n some some)
+      (product_some p f n n some some)
 
   pub eighth_some : (n : ℕ) → (n % p ≡ 0 → ⊥) → to_eighth n % p ≡ 0 → ⊥
   eighth_some n some = product_some p f (to_fourth n) (to_fourth n) (fourth_some n some) (fourth_some n some)
@@ -73,7 +74,8 @@ module _ (p d : ℕ) (k : IsComplete p d) (h : HasEighths p d k.root) where
 
   as_power : (n : ℕ) → to_eighth n ≡ n ^ 8
   as_power n =
-      sym (one (to_eighth n)) ∙ square_power (to_fourth n) 1 2 refl ∙ square_power (n * n) 2 4 refl ∙ square_power n 4 8 refl
+      sym (one (to_eighth n)) ∙ square_power (to_fourth n) 1 2 refl ∙ square_power (n * n) 2 4 refl
+      ∙ square_power n 4 8 refl
     where
       one : (n : ℕ) → n ^ 1 ≡ n
       one n = pow-suc n 0 ∙ ap (λ t. t * n) (pow-zero n) ∙ plain n

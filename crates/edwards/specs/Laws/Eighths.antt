@@ -7,7 +7,8 @@ use Rattle.number_facts.proofs.CongruenceLaws.{products}
 use Rattle.number_facts.proofs.PowerLaws.{power_right, same_power}
 use Rattle.edwards.specs.Edwards.{Coordinates, IsOnCurve, edwards}
 use Rattle.edwards.specs.Curves.{IsComplete}
-use Rattle.edwards.specs.Eighths.{HasEighths, IsTold, IsEightTimes, EighthPowersTell, telling, tangent, rest, middle}
+use Rattle.edwards.specs.Eighths.{HasEighths, IsTold, IsEightTimes, EighthPowersTell, telling, tangent, second_factor}
+use Rattle.edwards.specs.Eighths.{first_factor}
 use Rattle.edwards.specs.Laws.ClassFacts.{two_steps, three_steps}
 use Rattle.edwards.specs.Laws.ClassFacts.{first_quotient, second_root, second_quotient, third_quotient}
 use Rattle.edwards.specs.Laws.Completeness.{has_inverses, complete}
@@ -68,14 +69,16 @@ module _ (p d : ℕ) (k : IsComplete p d) (h : HasEighths p d k.root) where
   first_half a on some_x some_y n some is =
       let r = root_of_quotient p f (more p d k h a) (2 * h.spread * to_fourth n) (h.spread * product p d k h a * t)
       (product_some p f (2 * h.spread) (to_fourth n) some_twice (fourth_some p d k h n some))
-      (first_quotient p (more p d k h a) (rest p a) h.spread (product p d k h a) t (to_fourth n) pos
+      (first_quotient p (more p d k h a) (second_factor p a) h.spread (product p d k h a) t (to_fourth n) pos
       (parts_make_square p d k h a on)
-      (ap (λ n. n % p) (regroup (tangent i h.slope a * rest p a * middle i a) (middle i a * (1 + a.y)) (rest p a)) ∙ is)) in
+      (ap (λ n. n % p) (regroup (tangent i h.slope a * second_factor p a * first_factor i a) (first_factor i a *
+      (1 + a.y)) (second_factor p a)) ∙ is)) in
       half p d k a on some_x some_y r.0 r.1
     where
       t : ℕ
-      t = tangent i h.slope a * rest p a * middle i a * (tangent i h.slope a * rest p a * middle i a)
-          * (middle i a * (1 + a.y))
+      t = tangent i h.slope a * second_factor p a * first_factor i a *
+          (tangent i h.slope a * second_factor p a * first_factor i a)
+          * (first_factor i a * (1 + a.y))
 
       regroup : (n w b : ℕ) → n * n * w * (n * n * w) * b ≡ n * n * (n * n) * (w * w) * b
       regroup n w b = omega arith
@@ -122,8 +125,8 @@ module _ (p d : ℕ) (k : IsComplete p d) (h : HasEighths p d k.root) where
       → tangent i h.slope a % p ≡ 0 → ⊥
   tangent_some a n some is =
       let t : ℕ = tangent i h.slope a in
-      let r : ℕ = rest p a in
-      let m : ℕ = middle i a in
+      let r : ℕ = second_factor p a in
+      let m : ℕ = first_factor i a in
       some_first p t r (some_first p (t * r) m (some_first p (t * r * m) (t * r * m)
       (some_first p (t * r * m * (t * r * m)) (t * r * m * (t * r * m))
       (some_first p (t * r * m * (t * r * m) * (t * r * m * (t * r * m))) (m * (1 + a.y) * (m * (1 + a.y)))
@@ -133,7 +136,8 @@ module _ (p d : ℕ) (k : IsComplete p d) (h : HasEighths p d k.root) where
 
   spread_some : (b : Coordinates) → IsOnCurve p d b → spread p d k h b % p ≡ 0 → ⊥
   spread_some b on =
-      let uv = product_some p f (above p d k h b) (below p d k h b) (some_above p d k h b on) (some_below p d k h b on) in
+      let uv = product_some p f (above p d k h b) (below p d k h b) (some_above p d k h b on)
+      (some_below p d k h b on) in
       product_some p f (above p d k h b * below p d k h b) (above p d k h b * below p d k h b) uv uv
 
   -- what is left at its half b
@@ -156,7 +160,8 @@ module _ (p d : ℕ) (k : IsComplete p d) (h : HasEighths p d k.root) where
     left : to_fourth factor * (sides p d k h b * sides p d k h b) % p
         ≡ to_fourth (fourth p d k h b) * (b.y * b.y * more p d k h b) % p
     left = ap (λ n. n % p) (regroup signed.0 n (spread p d k h b) (sides p d k h b))
-        ∙ cancelled p f (to_fourth signed.0 * to_fourth n * to_fourth (spread p d k h b) * (sides p d k h b * sides p d k h b))
+        ∙ cancelled p f (to_fourth signed.0 * to_fourth n * to_fourth (spread p d k h b) *
+        (sides p d k h b * sides p d k h b))
         (to_fourth (fourth p d k h b) * (b.y * b.y * more p d k h b)) (2 * h.spread * below p d k h b)
         (product_some p f (2 * h.spread) (below p d k h b) some_twice (some_below p d k h b on))
         (second_quotient p (value_root p d k h b) (to_fourth signed.0) h.spread (below p d k h b) (to_fourth n)
@@ -300,7 +305,8 @@ module _ (p d : ℕ) (k : IsComplete p d) (h : HasEighths p d k.root) where
         cancelled p f (of (double p d k h q) * to_eighth top) (class * to_eighth bottom)
         (below p d k h q * below p d k h q)
         (product_some p f (below p d k h q) (below p d k h q) (some_below p d k h q on_q) (some_below p d k h q on_q))
-        (three_steps p (of (double p d k h q)) (below p d k h q) (value_root p d k h q) (spread p d k h q) (more p d k h c)
+        (three_steps p (of (double p d k h q)) (below p d k h q) (value_root p d k h q) (spread p d k h q)
+        (more p d k h c)
         (squares p d k h w) h.spread (fourth p d k h q * both p d k h c) (above p d k h w) i pos
         (value_is_square p d k h q on_q)
         (left_at c on_c some_x some_y (value_root p d k h q * to_fourth (spread p d k h q))
@@ -334,7 +340,8 @@ module _ (p d : ℕ) (k : IsComplete p d) (h : HasEighths p d k.root) where
       let g : Group (Point p d k) = points p d k in
       sym (at-times p d k 8 s) ∙ ap (λ (a : Point p d k). a.at)
       (times-mul (points_laws p d k) 2 4 s ∙ twice (times g 4 s)
-      ∙ ap (λ a. g.plus a a) (times-mul (points_laws p d k) 2 2 s ∙ twice (times g 2 s) ∙ ap (λ a. g.plus a a) (twice s)))
+      ∙ ap (λ a. g.plus a a) (times-mul (points_laws p d k) 2 2 s ∙ twice (times g 2 s) ∙ ap (λ a. g.plus a a)
+      (twice s)))
     where
       twice : (a : Point p d k) → times (points p d k) 2 a ≡ (points p d k).plus a a
       twice a = ap (λ b. (points p d k).plus b a) ((points_laws p d k).left_identity a)
@@ -344,7 +351,8 @@ module _ (p d : ℕ) (k : IsComplete p d) (h : HasEighths p d k.root) where
   told_is_eight_times a on some_x some_y told =
       let e = told_alike p d k h (of a) class some_class (told ∙ sym class_is) in
       let s = first_half a on some_x some_y e.0 e.1 e.2 in
-      subst (IsEightTimes p d) s.2 (at_half s.0 s.1 (subst SomeX (sym s.2) some_x) (subst SomeY (sym s.2) some_y) e.0 e.1
+      subst (IsEightTimes p d) s.2 (at_half s.0 s.1 (subst SomeX (sym s.2) some_x) (subst SomeY
+      (sym s.2) some_y) e.0 e.1
       (subst (λ a. of a % p ≡ class * to_eighth e.0 % p) (sym s.2) e.2))
     where
       SomeX : Coordinates → Type 0
@@ -366,7 +374,8 @@ module _ (p d : ℕ) (k : IsComplete p d) (h : HasEighths p d k.root) where
       at_half b on some_x some_y n some is =
           let s = second_half b on some_x some_y n some is in
           let e = ap (double p d k h) s.2 in
-          subst (IsEightTimes p d) e (at_quarter s.0 s.1 (subst SomeX (sym e) some_x) (subst SomeY (sym e) some_y) n some
+          subst (IsEightTimes p d) e (at_quarter s.0 s.1 (subst SomeX (sym e) some_x) (subst SomeY
+          (sym e) some_y) n some
           (subst (λ a. of a % p ≡ class * to_eighth n % p) (sym e) is))
 
   eight_times_is_told : (a : Coordinates) → IsOnCurve p d a → (a.x % p ≡ 0 → ⊥) → (a.y % p ≡ 0 → ⊥)

@@ -1,5 +1,6 @@
 -- A point is a double where one more than the square of its first coordinate is a square.
-use Rattle.std.proofs.Common.{◌≡◌, ℕ, ◌+◌, ◌-◌, ◌*◌, ◌%◌, ◌<◌, ◌⊎◌, inl, inr, refl, sym, ◌∙◌, ap, arith, mod-lt, mod-eq_of_lt, mul_comm}
+use Rattle.std.proofs.Common.{◌≡◌, ℕ, ◌+◌, ◌-◌, ◌*◌, ◌%◌, ◌<◌, ◌⊎◌, inl, inr, refl, sym, ◌∙◌, ap, arith, mod-lt}
+use Rattle.std.proofs.Common.{mod-eq_of_lt, mul_comm}
 use Rattle.std.proofs.Math.Nat.{zero-mod, mod-mod}
 use Rattle.number_facts.proofs.CongruenceLaws.{sums, multiples, products}
 use Rattle.number_facts.proofs.Residues.{one_has_root}
@@ -8,7 +9,8 @@ use Rattle.edwards.specs.Edwards.{Coordinates, IsOnCurve, cross, inverse, sum}
 use Rattle.edwards.specs.Curves.{IsComplete}
 use Rattle.edwards.specs.Laws.Completeness.{has_inverses, complete}
 use Rattle.edwards.specs.Laws.CurveLaws.{NoCrossIsOne, same_coordinates, above_some, below_some}
-use Rattle.edwards.specs.Laws.Quotients.{HasInverses, some_modulus, cancelled, product_some, is_over, less, inverse_times}
+use Rattle.edwards.specs.Laws.Quotients.{HasInverses, some_modulus, cancelled, product_some, is_over, less}
+use Rattle.edwards.specs.Laws.Quotients.{inverse_times}
 use Rattle.edwards.specs.Laws.HalfFacts.{half_first, half_spread, half_on_curve, half_gives_x, half_gives_y}
 use Rattle.edwards.specs.Laws.HalfFacts.{halves_apart, sums_apart, ones_apart, other_root}
 
@@ -39,7 +41,8 @@ root_of_quotient p f c u v some e = (
   v * inverse p u,
   ap (λ t. t % p) (turn v (inverse p u)) ∙ sym (multiples p (c * (u * u)) (v * v) (inverse p u * inverse p u) e)
       ∙ ap (λ t. t % p) (apart c u (inverse p u))
-      ∙ multiples p (c * u * inverse p u) c (u * inverse p u) (inverse_times p f c u some) ∙ ap (λ t. t % p) (whole c u (inverse p u))
+      ∙ multiples p (c * u * inverse p u) c (u * inverse p u) (inverse_times p f c u some) ∙ ap (λ t. t % p)
+      (whole c u (inverse p u))
       ∙ inverse_times p f c u some,
 )
   where
@@ -154,14 +157,16 @@ module _ (p d : ℕ) (k : IsComplete p d) where
             first is_y is_g))
 
     pub half : (e : ℕ) → e * e % p ≡ (1 + a.x * a.x) % p → IsDouble p d a
-    half e is_e = at (one_has_root p k.generator (p - 1) k.factors k.generates d k.half k.halves some_half over_two k.no_square
+    half e is_e = at (one_has_root p k.generator (p - 1) k.factors k.generates d k.half k.halves some_half over_two
+        k.no_square
         (g * (1 + e)) (g' * (1 + e')) i some_g some_g' apart)
       where
         e' : ℕ
         e' = k.root * k.root * e
 
         opposite : (e' + e) % p ≡ 0 % p
-        opposite = ap (λ t. t % p) (turn (k.root * k.root) e) ∙ multiples p (k.root * k.root + 1) 0 e minus ∙ ap (λ t. t % p) (none e)
+        opposite = ap (λ t. t % p) (turn (k.root * k.root) e) ∙ multiples p (k.root * k.root + 1) 0 e minus ∙ ap
+            (λ t. t % p) (none e)
           where
             none : (e : ℕ) → 0 * e ≡ 0
             none e = omega arith
@@ -207,19 +212,22 @@ module _ (p d : ℕ) (k : IsComplete p d) where
         some_ones : (1 + e) * (1 + e') % p ≡ 0 → ⊥
         some_ones = some_alike p ((1 + e) * (1 + e')) (i * a.x * (i * a.x))
             (ones_apart p e' e a.x i pos opposite is_e minus)
-            (product_some p f (i * a.x) (i * a.x) (product_some p f i a.x some_i some_x) (product_some p f i a.x some_i some_x))
+            (product_some p f (i * a.x) (i * a.x) (product_some p f i a.x some_i some_x)
+            (product_some p f i a.x some_i some_x))
 
         some_g : g * (1 + e) % p ≡ 0 → ⊥
         some_g = product_some p f g (1 + e) (some_first p g (a.y + e) (some_alike p (g * (a.y + e)) a.y is_g some_y))
             (some_first p (1 + e) (1 + e') some_ones)
 
         some_g' : g' * (1 + e') % p ≡ 0 → ⊥
-        some_g' = product_some p f g' (1 + e') (some_first p g' (a.y + e') (some_alike p (g' * (a.y + e')) a.y is_g' some_y))
+        some_g' = product_some p f g' (1 + e') (some_first p g' (a.y + e') (some_alike p (g' *
+            (a.y + e')) a.y is_g' some_y))
             (some_second p (1 + e) (1 + e') some_ones)
 
         apart : d * (g * (1 + e) * (g' * (1 + e'))) % p ≡ i * i % p
         apart = cancelled p f (d * (g * (1 + e) * (g' * (1 + e')))) (i * i) ((a.y + e) * (a.y + e')) some_sums
-            (halves_apart p d g g' e' (a.y + e) (a.y + e') e a.x a.y i pos is_g is_g' refl refl opposite is_e on.equation minus)
+            (halves_apart p d g g' e' (a.y + e) (a.y + e') e a.x a.y i pos is_g is_g' refl refl opposite is_e
+            on.equation minus)
 
         at : ((y : ℕ) × (y * y % p ≡ g * (1 + e) % p)) ⊎ ((y : ℕ) × (y * y % p ≡ g' * (1 + e') % p)) → IsDouble p d a
         at (inl s) = half_from e g s.0 is_e some_t is_g some_g s.1

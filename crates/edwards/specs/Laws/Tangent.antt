@@ -6,12 +6,13 @@ use Rattle.std.proofs.lemmas.Bool.{cases_eq}
 use Rattle.number_facts.proofs.CongruenceLaws.{sums, multiples}
 use Rattle.edwards.specs.Edwards.{Coordinates, IsOnCurve}
 use Rattle.edwards.specs.Curves.{IsComplete}
-use Rattle.edwards.specs.Eighths.{HasEighths, tangent, rest}
+use Rattle.edwards.specs.Eighths.{HasEighths, tangent, second_factor}
 use Rattle.edwards.specs.Laws.Completeness.{has_inverses}
 use Rattle.edwards.specs.Laws.Halves.{some_first, some_second, some_alike, some_i}
 use Rattle.edwards.specs.Laws.Quotients.{HasInverses, some_modulus, cancelled, product_some, less, differs}
 use Rattle.edwards.specs.Laws.TangentFacts.{tangent_apart, tangent_on_curve, tangent_roots, tangent_second, left_alone}
-use Rattle.edwards.specs.Laws.Telling.{minus, double, above, below, both, less_first, apart, squares, more, product, sides}
+use Rattle.edwards.specs.Laws.Telling.{minus, double, above, below, both, less_first, apart, squares, more, product}
+use Rattle.edwards.specs.Laws.Telling.{sides}
 use Rattle.edwards.specs.Laws.Telling.{at_x, at_y, some_above, some_below, parts_make_square, parted}
 use Rattle.edwards.specs.Laws.TurnedFacts.{first_denominator, turned_cross, turned_alike, turned_more, turned_product}
 use Rattle.edwards.specs.Laws.TurnedFacts.{rest_parted}
@@ -48,29 +49,32 @@ module _ (p d : ℕ) (k : IsComplete p d) (h : HasEighths p d k.root) where
     pub some_product : product p d k h a % p ≡ 0 → ⊥
     some_product = product_some p f (i * a.x) a.y some_turned some_y
 
-    some_parts : more p d k h a * rest p a % p ≡ 0 → ⊥
-    some_parts = some_alike p (more p d k h a * rest p a) (h.spread * product p d k h a * (h.spread * product p d k h a))
+    some_parts : more p d k h a * second_factor p a % p ≡ 0 → ⊥
+    some_parts = some_alike p (more p d k h a * second_factor p a) (h.spread * product p d k h a *
+        (h.spread * product p d k h a))
         (parts_make_square p d k h a on)
         (product_some p f (h.spread * product p d k h a) (h.spread * product p d k h a)
         (product_some p f h.spread (product p d k h a) h.some_spread some_product)
         (product_some p f h.spread (product p d k h a) h.some_spread some_product))
 
     pub some_more : more p d k h a % p ≡ 0 → ⊥
-    some_more = some_first p (more p d k h a) (rest p a) some_parts
+    some_more = some_first p (more p d k h a) (second_factor p a) some_parts
 
-    pub some_rest : rest p a % p ≡ 0 → ⊥
-    some_rest = some_second p (more p d k h a) (rest p a) some_parts
+    pub some_rest : second_factor p a % p ≡ 0 → ⊥
+    some_rest = some_second p (more p d k h a) (second_factor p a) some_parts
 
     some_turned_sides : (1 + i * a.x) * less_first p d k h a % p ≡ 0 → ⊥
     some_turned_sides = some_alike p ((1 + i * a.x) * less_first p d k h a) (more p d k h a)
         (turned_more p (less_first p d k h a) i a.x pos (less p (i * a.x) pos) (minus p d k h)) some_more
 
     some_upper : (1 + a.y) * (1 + (p - a.y % p)) % p ≡ 0 → ⊥
-    some_upper = some_alike p ((1 + a.y) * (1 + (p - a.y % p))) (rest p a)
-        (rest_parted p (rest p a) (1 + (p - a.y % p)) a.y pos (less p (a.y * a.y) pos) (less p a.y pos)) some_rest
+    some_upper = some_alike p ((1 + a.y) * (1 + (p - a.y % p))) (second_factor p a)
+        (rest_parted p (second_factor p a) (1 + (p - a.y % p)) a.y pos (less p (a.y * a.y) pos)
+        (less p a.y pos)) some_rest
 
     pub some_sides : sides p d k h a % p ≡ 0 → ⊥
-    some_sides = product_some p f (1 + a.y) (less_first p d k h a) (some_first p (1 + a.y) (1 + (p - a.y % p)) some_upper)
+    some_sides = product_some p f (1 + a.y) (less_first p d k h a) (some_first p (1 + a.y) (1 +
+        (p - a.y % p)) some_upper)
         (some_second p (1 + i * a.x) (less_first p d k h a) some_turned_sides)
 
     -- ---- where the tangent is 0
@@ -113,7 +117,8 @@ module _ (p d : ℕ) (k : IsComplete p d) (h : HasEighths p d k.root) where
               (some_first p (1 + w) (less_first p d k h a) some_turned_sides)
               (product_some p f w (2 * ((1 + h.r) * (1 + h.r)) * (v * v)) some_turned
               (product_some p f (2 * ((1 + h.r) * (1 + h.r))) (v * v)
-              (product_some p f 2 ((1 + h.r) * (1 + h.r)) two_some (product_some p f (1 + h.r) (1 + h.r) h.some_r h.some_r))
+              (product_some p f 2 ((1 + h.r) * (1 + h.r)) two_some (product_some p f (1 + h.r)
+              (1 + h.r) h.some_r h.some_r))
               (product_some p f v v some some))) (roots ∙ zero-mod p))
 
       at_first : h.r * w % p ≡ 1 % p
@@ -123,7 +128,8 @@ module _ (p d : ℕ) (k : IsComplete p d) (h : HasEighths p d k.root) where
       away = 1 + (p - h.r * a.y % p)
 
       away_is : (1 + h.r) * (1 + (p - h.r * a.y % p)) % p ≡ 0
-      away_is = tangent_second p h.slope h.r (1 + (p - h.r * a.y % p)) w a.y pos at_first (h.is_slope ∙ sym (zero-mod p))
+      away_is = tangent_second p h.slope h.r (1 + (p - h.r * a.y % p)) w a.y pos at_first (h.is_slope ∙ sym
+          (zero-mod p))
           (less p (h.r * a.y) pos)
           ∙ ap (λ n. n % p) (mul_comm h.r (tangent i h.slope a)) ∙ multiples p (tangent i h.slope a) 0 h.r none
           ∙ ap (λ n. n % p) (nothing h.r) ∙ zero-mod p
@@ -133,13 +139,15 @@ module _ (p d : ℕ) (k : IsComplete p d) (h : HasEighths p d k.root) where
 
       at_second : h.r * a.y % p ≡ 1 % p
       at_second = ap (λ n. n % p) (plain (h.r * a.y))
-          ∙ sums p 0 (1 + (p - h.r * a.y % p)) (h.r * a.y) (h.r * a.y) (zero-mod p ∙ sym (at (cases_eq ((1 + (p - h.r * a.y % p)) % p) 0))) refl
+          ∙ sums p 0 (1 + (p - h.r * a.y % p)) (h.r * a.y) (h.r * a.y) (zero-mod p ∙ sym (at (cases_eq ((1 +
+          (p - h.r * a.y % p)) % p) 0))) refl
           ∙ less p (h.r * a.y) pos
         where
           plain : (n : ℕ) → n ≡ 0 + n
           plain n = omega arith
 
-          at : ((1 + (p - h.r * a.y % p)) % p ≡ 0) ⊎ ((1 + (p - h.r * a.y % p)) % p ≡ 0 → ⊥) → (1 + (p - h.r * a.y % p)) % p ≡ 0
+          at : ((1 + (p - h.r * a.y % p)) % p ≡ 0) ⊎ ((1 + (p - h.r * a.y % p)) % p ≡ 0 → ⊥) → (1 +
+              (p - h.r * a.y % p)) % p ≡ 0
           at (inl e) = e
           at (inr some) = absurd (product_some p f (1 + h.r) (1 + (p - h.r * a.y % p)) h.some_r some away_is)
 
@@ -169,10 +177,12 @@ module _ (p d : ℕ) (k : IsComplete p d) (h : HasEighths p d k.root) where
         turn x y = omega arith
 
     pub half_some_squares : squares p d k h a % p ≡ 0 → ⊥
-    half_some_squares = some_alike p (squares p d k h a) ((double p d k h a).y * below p d k h a) (sym (at_y p d k h a on))
+    half_some_squares = some_alike p (squares p d k h a) ((double p d k h a).y * below p d k h a) (sym
+        (at_y p d k h a on))
         (product_some p f (double p d k h a).y (below p d k h a) some_y (some_below p d k h a on))
 
     pub half_some_both : both p d k h a % p ≡ 0 → ⊥
     half_some_both = some_first p (both p d k h a) (apart p d k h a)
         (some_alike p (both p d k h a * apart p d k h a) (squares p d k h a)
-        (turned_product p (apart p d k h a) i a.x a.y pos (differs p a.y (i * a.x) pos) (minus p d k h)) half_some_squares)
+        (turned_product p (apart p d k h a) i a.x a.y pos (differs p a.y (i * a.x) pos)
+        (minus p d k h)) half_some_squares)

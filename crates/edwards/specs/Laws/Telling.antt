@@ -4,11 +4,12 @@ use Rattle.std.proofs.Math.Nat.{zero-mod}
 use Rattle.number_facts.proofs.CongruenceLaws.{sums, multiples, products}
 use Rattle.edwards.specs.Edwards.{Coordinates, IsOnCurve, cross, sum}
 use Rattle.edwards.specs.Curves.{IsComplete}
-use Rattle.edwards.specs.Eighths.{HasEighths, tangent, rest, middle, telling}
+use Rattle.edwards.specs.Eighths.{HasEighths, tangent, second_factor, first_factor, telling}
 use Rattle.edwards.specs.Laws.Completeness.{has_inverses, complete}
 use Rattle.edwards.specs.Laws.CurveLaws.{NoCrossIsOne, above_some, below_some, x_of, y_of}
 use Rattle.edwards.specs.Laws.Quotients.{HasInverses, some_modulus, cancelled, product_some, less, differs}
-use Rattle.edwards.specs.Laws.DoubleFacts.{double_first, double_first_less, double_second, double_rest, double_square, parts}
+use Rattle.edwards.specs.Laws.DoubleFacts.{double_first, double_first_less, double_second, double_rest, double_square}
+use Rattle.edwards.specs.Laws.DoubleFacts.{parts}
 use Rattle.edwards.specs.Laws.TangentFacts.{tangent_cleared, tangent_of_double}
 use Rattle.edwards.specs.Laws.TurnedFacts.{first_denominator, turned_away, turned_cross, turned_product}
 use Rattle.edwards.specs.Laws.ClassFacts.{root_of_value, root_of_double, root_of_quadruple}
@@ -73,9 +74,9 @@ module _ (p d : ℕ) (k : IsComplete p d) (h : HasEighths p d k.root) where
   -- the square root of the value at the double
   abbrev pub value_root : Coordinates → ℕ
   value_root a =
-      tangent i h.slope (double a) * rest p (double a) * middle i (double a)
-      * (tangent i h.slope (double a) * rest p (double a) * middle i (double a))
-      * (middle i (double a) * (1 + (double a).y)) * (2 * (h.spread * product a))
+      tangent i h.slope (double a) * second_factor p (double a) * first_factor i (double a)
+      * (tangent i h.slope (double a) * second_factor p (double a) * first_factor i (double a))
+      * (first_factor i (double a) * (1 + (double a).y)) * (2 * (h.spread * product a))
 
   abbrev pub spread : Coordinates → ℕ
   spread a = above a * below a * (above a * below a)
@@ -103,7 +104,8 @@ module _ (p d : ℕ) (k : IsComplete p d) (h : HasEighths p d k.root) where
     at_y = y_of p d f all a a on on
 
     two : (above a + below a) % p ≡ 2 % p
-    two = ap (λ n. n % p) (turn (cross d a a) (below a)) ∙ sums p (below a + cross d a a) 1 1 1 (less p (cross d a a) pos) refl
+    two = ap (λ n. n % p) (turn (cross d a a) (below a)) ∙ sums p (below a + cross d a a) 1 1 1 (less p
+        (cross d a a) pos) refl
       where
         turn : (c v : ℕ) → 1 + c + v ≡ v + c + 1
         turn c v = omega arith
@@ -118,16 +120,18 @@ module _ (p d : ℕ) (k : IsComplete p d) (h : HasEighths p d k.root) where
     second : (1 + (double a).y) * below a % p ≡ 2 * more a % p
     second = double_second p a.x a.y (double a).y (above a) (below a) pos parted at_y two
 
-    rest_is_square : rest p (double a) * (below a * below a) % p
+    rest_is_square : second_factor p (double a) * (below a * below a) % p
         ≡ 2 * (h.spread * product a) * (2 * (h.spread * product a)) % p
-    rest_is_square = double_rest p i h.spread (rest p (double a)) a.x a.y d (double a).y (above a) (below a) pos parted at_y two
+    rest_is_square = double_rest p i h.spread (second_factor p (double a)) a.x a.y d (double a).y (above a)
+        (below a) pos parted at_y two
         minus h.is_spread refl (less p ((double a).y * (double a).y) pos)
 
     pub more_is_square : more (double a) * (above a * above a) % p ≡ squares a * squares a % p
     more_is_square = double_square p a.x a.y (double a).x (above a) pos parted at_x
 
-    pub parts_make_square : more a * rest p a % p ≡ h.spread * product a * (h.spread * product a) % p
-    parts_make_square = parts p i h.spread (rest p a) a.x a.y d pos on.equation minus h.is_spread (less p (a.y * a.y) pos)
+    pub parts_make_square : more a * second_factor p a % p ≡ h.spread * product a * (h.spread * product a) % p
+    parts_make_square = parts p i h.spread (second_factor p a) a.x a.y d pos on.equation minus h.is_spread (less p
+        (a.y * a.y) pos)
 
     turned_first : i * (double a).x * above a % p ≡ 2 * (i * a.x * a.y) % p
     turned_first = ap (λ n. n % p) (turn i (double a).x (above a))
@@ -139,7 +143,7 @@ module _ (p d : ℕ) (k : IsComplete p d) (h : HasEighths p d k.root) where
         twice : (i x y : ℕ) → (x * y + y * x) * i ≡ 2 * (i * x * y)
         twice i x y = omega arith
 
-    middle_is : middle i (double a) * (above a * above a) % p ≡ 2 * product a * (both a * both a) % p
+    middle_is : first_factor i (double a) * (above a * above a) % p ≡ 2 * product a * (both a * both a) % p
     middle_is = ap (λ n. n % p) (turn (i * (double a).x) (1 + i * (double a).x) (above a))
         ∙ products p (i * (double a).x * above a) (2 * (i * a.x * a.y)) ((1 + i * (double a).x) * above a)
         (both a * both a) turned_first first
@@ -148,22 +152,28 @@ module _ (p d : ℕ) (k : IsComplete p d) (h : HasEighths p d k.root) where
         turn x z u = omega arith
 
     -- the tangent
-    pub tangent_is : tangent i h.slope (double a) * (above a * below a) * sides a % p ≡ a.y * both a * (root a * root a) % p
+    pub tangent_is : tangent i h.slope (double a) * (above a * below a) * sides a % p ≡ a.y * both a *
+        (root a * root a) % p
     tangent_is = multiples p (tangent i h.slope (double a) * (above a * below a)) _ (sides a)
-        (tangent_cleared p h.slope (i * a.x) a.x a.y (i * (double a).x) (double a).y (above a) (below a) pos turned_first at_y)
-        ∙ tangent_of_double p h.slope (less_first a) (squares a) (above a) (below a) (root a) (i * i) d h.r (i * a.x) a.y pos
+        (tangent_cleared p h.slope (i * a.x) a.x a.y (i * (double a).x) (double a).y (above a)
+        (below a) pos turned_first at_y)
+        ∙ tangent_of_double p h.slope (less_first a) (squares a) (above a) (below a) (root a) (i * i) d h.r
+        (i * a.x) a.y pos
         minus (first_denominator p i a.x a.y (above a) pos parted minus) two (turned_away p i a.x a.y pos minus)
         (h.is_slope ∙ sym (zero-mod p)) (less p (i * a.x) pos) refl h.of_order_eight
         (turned_cross p i a.x a.y d (above a) pos refl minus)
 
     pub value_is_square : telling p i h.slope (double a) * (below a * below a) % p ≡ value_root a * value_root a % p
-    value_is_square = root_of_value p (tangent i h.slope (double a)) (rest p (double a)) (middle i (double a))
+    value_is_square = root_of_value p (tangent i h.slope (double a)) (second_factor p (double a)) (first_factor i
+        (double a))
         (1 + (double a).y) (2 * (h.spread * product a)) (below a) pos rest_is_square
 
     pub value_root_is : value_root a * (spread a * spread a * (spread a * spread a)) * (sides a * sides a) % p
         ≡ 2 * h.spread * below a * (fourth a * fourth a * (fourth a * fourth a)) * (a.y * a.y * more a) % p
-    value_root_is = root_of_double p (tangent i h.slope (double a)) (rest p (double a)) (middle i (double a))
-        (1 + (double a).y) (above a) (below a) (sides a) a.y (both a) (root a) h.spread (product a) (more a) pos tangent_is
+    value_root_is = root_of_double p (tangent i h.slope (double a)) (second_factor p (double a)) (first_factor i
+        (double a))
+        (1 + (double a).y) (above a) (below a) (sides a) a.y (both a) (root a) h.spread (product a)
+        (more a) pos tangent_is
         rest_is_square middle_is second
 
     -- where a is doubled to b, and b to the point
@@ -172,8 +182,10 @@ module _ (p d : ℕ) (k : IsComplete p d) (h : HasEighths p d k.root) where
     next_is = cancelled p f ((double a).y * (double a).y * more (double a) * (2 * more a * (2 * more a)))
         (sides (double a) * (both a * both a) * (sides (double a) * (both a * both a)))
         (above a * below a * (above a * below a))
-        (product_some p f (above a * below a) (above a * below a) (product_some p f (above a) (below a) some_above some_below)
+        (product_some p f (above a * below a) (above a * below a) (product_some p f (above a)
+        (below a) some_above some_below)
         (product_some p f (above a) (below a) some_above some_below))
-        (root_of_quadruple p (double a).y (more (double a)) (1 + (double a).y) (above a) (below a) (less_first (double a))
+        (root_of_quadruple p (double a).y (more (double a)) (1 + (double a).y) (above a) (below a) (less_first
+        (double a))
         (squares a) (more a) (apart a) (both a) pos at_y more_is_square second less_is_square
         (turned_product p (apart a) i a.x a.y pos (differs p a.y (i * a.x) pos) minus))
