@@ -1,17 +1,14 @@
 -- Elements of the prime subgroup by their coordinates.
-use Rattle.std.proofs.Common.{◌≡◌, ℕ, Bool, sym, ◌∙◌, subst}
-use Rattle.std.specs.Bool.{Decides}
+use Rattle.std.proofs.Common.{◌≡◌, ℕ, sym, ◌∙◌, subst}
 use Rattle.ark_groups.specs.Group.{times}
 use Rattle.jubjub.specs.declared.element.Jubjub.{Jubjub}
-use Rattle.jubjub.specs.Edwards.{Coordinates, neutral}
-use Rattle.jubjub.specs.Jubjub.{order, curve, IsOnJubjub, IsInSubgroup}
-use Rattle.jubjub.specs.Extended.{Extended, Stands}
+use Rattle.jubjub.specs.Edwards.{Coordinates}
+use Rattle.jubjub.specs.Jubjub.{curve, IsInSubgroup}
 use Rattle.jubjub.specs.Values.{Fr, value}
 use Rattle.jubjub.specs.Elements.{coordinates, jubjub}
 use Rattle.jubjub.specs.Laws.Elements.{same_element, coordinates_of}
 use Rattle.edwards.specs.Laws.CurveLaws.{same_coordinates}
 use Rattle.jubjub.specs.Laws.Group.{coordinates-times}
-use Rattle.jubjub.proofs.MultiplesOnCurve.{multiple_on_curve}
 
 -- ---- elements by two elements of the field
 

@@ -15,7 +15,7 @@ use Rattle.edwards.specs.Laws.Completeness.{has_inverses}
 use Rattle.edwards.specs.Laws.Halves.{some_first, some_second, some_alike, some_i}
 use Rattle.edwards.specs.Laws.Quotients.{HasInverses, some_modulus, cancelled, product_some, inverse_times}
 use Rattle.edwards.specs.Laws.Tangent.{one_some}
-use Rattle.edwards.specs.Laws.Telling.{minus}
+use Rattle.edwards.specs.Laws.Telling.{minus, to_square}
 use Rattle.edwards.specs.Laws.TurnedFacts.{signs, sign_is_fourth, sign_is_none}
 
 abbrev pub to_fourth : ℕ → ℕ
@@ -73,15 +73,7 @@ module _ (p d : ℕ) (k : IsComplete p d) (h : HasEighths p d k.root) where
       eight e n is = omega (arith, is)
 
   as_power : (n : ℕ) → to_eighth n ≡ n ^ 8
-  as_power n =
-      sym (one (to_eighth n)) ∙ square_power (to_fourth n) 1 2 refl ∙ square_power (n * n) 2 4 refl
-      ∙ square_power n 4 8 refl
-    where
-      one : (n : ℕ) → n ^ 1 ≡ n
-      one n = pow-suc n 0 ∙ ap (λ t. t * n) (pow-zero n) ∙ plain n
-        where
-          plain : (n : ℕ) → 1 * n ≡ n
-          plain n = omega arith
+  as_power n = to_square (to_fourth n) ∙ square_power (n * n) 2 4 refl ∙ square_power n 4 8 refl
 
   some_eighth : 0 < h.eighth
   some_eighth = positive h.eighth p h.eighths k.big

@@ -7,7 +7,7 @@ use Rattle.number_facts.proofs.CongruenceLaws.{products}
 use Rattle.number_facts.proofs.PowerLaws.{power_right, same_power}
 use Rattle.edwards.specs.Edwards.{Coordinates, IsOnCurve, edwards}
 use Rattle.edwards.specs.Curves.{IsComplete}
-use Rattle.edwards.specs.Eighths.{HasEighths, IsTold, IsEightTimes, EighthPowersTell, telling, tangent, second_factor}
+use Rattle.edwards.specs.Eighths.{HasEighths, IsTold, IsEightTimes, EighthPowersTell, tangent, second_factor}
 use Rattle.edwards.specs.Eighths.{first_factor}
 use Rattle.edwards.specs.Laws.ClassFacts.{two_steps, three_steps}
 use Rattle.edwards.specs.Laws.ClassFacts.{first_quotient, second_root, second_quotient, third_quotient}
@@ -20,7 +20,8 @@ use Rattle.edwards.specs.Laws.Points.{Point, points, points_laws, at-times}
 use Rattle.edwards.specs.Laws.Quotients.{HasInverses, some_modulus, cancelled, product_some}
 use Rattle.edwards.specs.Laws.Tangent.{two_some, four_some, some_product, some_sides}
 use Rattle.edwards.specs.Laws.Tangent.{squares_are_zero, half_some_x, half_some_y, half_some_squares, half_some_both}
-use Rattle.edwards.specs.Laws.Telling.{minus, double, above, below, both, squares, more, product, sides, root, spread}
+use Rattle.edwards.specs.Laws.Telling.{telling_is, multiplied, minus, double, above, below, both, squares, more}
+use Rattle.edwards.specs.Laws.Telling.{product, sides, root, spread}
 use Rattle.edwards.specs.Laws.Telling.{value_root, fourth, some_above, some_below, more_is_square, parts_make_square}
 use Rattle.edwards.specs.Laws.Telling.{tangent_is, value_is_square, value_root_is, next_is}
 use Rattle.edwards.specs.Laws.TurnedFacts.{two_parted}
@@ -39,7 +40,7 @@ module _ (p d : ℕ) (k : IsComplete p d) (h : HasEighths p d k.root) where
   some_product_of = product_some p f
 
   abbrev of : Coordinates → ℕ
-  of a = telling p i h.slope a
+  of a = multiplied p i h.slope a
 
   -- the constant: its eighth powers' multiples are told
   abbrev class : ℕ
@@ -349,7 +350,8 @@ module _ (p d : ℕ) (k : IsComplete p d) (h : HasEighths p d k.root) where
   told_is_eight_times : (a : Coordinates) → IsOnCurve p d a → (a.x % p ≡ 0 → ⊥) → (a.y % p ≡ 0 → ⊥)
       → IsTold p d k.root h a → IsEightTimes p d a
   told_is_eight_times a on some_x some_y told =
-      let e = told_alike p d k h (of a) class some_class (told ∙ sym class_is) in
+      let e = told_alike p d k h (of a) class some_class
+      (ap (λ n. n ^ h.eighth % p) (telling_is p i h.slope a) ∙ told ∙ sym class_is) in
       let s = first_half a on some_x some_y e.0 e.1 e.2 in
       subst (IsEightTimes p d) s.2 (at_half s.0 s.1 (subst SomeX (sym s.2) some_x) (subst SomeY
       (sym s.2) some_y) e.0 e.1
@@ -382,7 +384,8 @@ module _ (p d : ℕ) (k : IsComplete p d) (h : HasEighths p d k.root) where
       → ((a.y * a.y + a.x * a.x) % p ≡ 0 → ⊥) → IsEightTimes p d a → IsTold p d k.root h a
   eight_times_is_told a on some_x some_y some_squares s =
       let e = sym (eight s.0 s.1) ∙ s.2 in
-      subst (IsTold p d k.root h) e
+      ap (λ n. n ^ h.eighth % p) (sym (telling_is p i h.slope a))
+      ∙ subst (λ a. of a ^ h.eighth % p ≡ h.class) e
       (power_is s.0 s.1 (subst (λ (a : Coordinates). a.x % p ≡ 0 → ⊥) (sym e) some_x)
       (subst (λ (a : Coordinates). a.y % p ≡ 0 → ⊥) (sym e) some_y)
       (subst (λ a. tangent i h.slope a % p ≡ 0 → ⊥) (sym e)

@@ -1,7 +1,8 @@
 -- What the value that tells the multiples of 8 is at a double, and at a double of a double.
-use Rattle.std.proofs.Common.{◌≡◌, ℕ, ◌+◌, ◌-◌, ◌*◌, ◌%◌, ◌<◌, refl, sym, ◌∙◌, ap, arith}
-use Rattle.std.proofs.Math.Nat.{zero-mod}
+use Rattle.std.proofs.Common.{◌≡◌, ℕ, ◌+◌, ◌-◌, ◌*◌, ◌%◌, ◌^◌, ◌<◌, refl, sym, ◌∙◌, ap, ap₂, arith, pow-suc}
+use Rattle.std.proofs.Math.Nat.{zero-mod, pow-zero}
 use Rattle.number_facts.proofs.CongruenceLaws.{sums, multiples, products}
+use Rattle.number_facts.proofs.PowerLaws.{square_power}
 use Rattle.edwards.specs.Edwards.{Coordinates, IsOnCurve, cross, sum}
 use Rattle.edwards.specs.Curves.{IsComplete}
 use Rattle.edwards.specs.Eighths.{HasEighths, tangent, second_factor, first_factor, telling}
@@ -13,6 +14,32 @@ use Rattle.edwards.specs.Laws.DoubleFacts.{parts}
 use Rattle.edwards.specs.Laws.TangentFacts.{tangent_cleared, tangent_of_double}
 use Rattle.edwards.specs.Laws.TurnedFacts.{first_denominator, turned_away, turned_cross, turned_product}
 use Rattle.edwards.specs.Laws.ClassFacts.{root_of_value, root_of_double, root_of_quadruple}
+
+-- ---- powers as products
+
+pub to_square : (n : ℕ) → n * n ≡ n ^ 2
+to_square n = sym (first (n * n)) ∙ square_power n 1 2 refl
+  where
+    first : (n : ℕ) → n ^ 1 ≡ n
+    first n = pow-suc n 0 ∙ ap (λ t. t * n) (pow-zero n) ∙ plain n
+      where
+        plain : (n : ℕ) → 1 * n ≡ n
+        plain n = omega arith
+
+to_fourth_power : (n : ℕ) → n * n * (n * n) ≡ n ^ 4
+to_fourth_power n = to_square (n * n) ∙ square_power n 2 4 refl
+
+-- the value, of products alone
+abbrev pub multiplied : ℕ → ℕ → ℕ → Coordinates → ℕ
+multiplied p i slope a =
+    let t = tangent i slope a * second_factor p a * first_factor i a in
+    let u = first_factor i a * (1 + a.y) in
+    t * t * (t * t) * (u * u) * second_factor p a
+
+pub telling_is : (p i slope : ℕ) (a : Coordinates) → multiplied p i slope a ≡ telling p i slope a
+telling_is p i slope a =
+    ap₂ (λ t u. t * u * second_factor p a) (to_fourth_power (tangent i slope a * second_factor p a * first_factor i a))
+    (to_square (first_factor i a * (1 + a.y)))
 
 module _ (p d : ℕ) (k : IsComplete p d) (h : HasEighths p d k.root) where
   abbrev i : ℕ
@@ -163,7 +190,7 @@ module _ (p d : ℕ) (k : IsComplete p d) (h : HasEighths p d k.root) where
         (h.is_slope ∙ sym (zero-mod p)) (less p (i * a.x) pos) refl h.of_order_eight
         (turned_cross p i a.x a.y d (above a) pos refl minus)
 
-    pub value_is_square : telling p i h.slope (double a) * (below a * below a) % p ≡ value_root a * value_root a % p
+    pub value_is_square : multiplied p i h.slope (double a) * (below a * below a) % p ≡ value_root a * value_root a % p
     value_is_square = root_of_value p (tangent i h.slope (double a)) (second_factor p (double a)) (first_factor i
         (double a))
         (1 + (double a).y) (2 * (h.spread * product a)) (below a) pos rest_is_square

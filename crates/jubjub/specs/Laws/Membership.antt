@@ -1,25 +1,24 @@
 -- One power tells whether a point of the curve is in the prime subgroup.
-use Rattle.std.proofs.Common.{◌≡◌, ℕ, ◌+◌, ◌-◌, ◌*◌, ◌/◌, ◌%◌, ◌^◌, ◌<◌, refl, sym, ◌∙◌, ap, subst, arith, lit<}
+use Rattle.std.proofs.Common.{◌≡◌, ℕ, ◌+◌, ◌-◌, ◌*◌, ◌/◌, ◌%◌, ◌<◌, refl, sym, ◌∙◌, ap, subst, arith, lit<}
 use Rattle.std.proofs.Common.{mod-eq_of_lt}
 use Rattle.std.proofs.Math.Nat.{zero-mod}
 use Rattle.ark_groups.specs.Group.{times}
 use Rattle.ark_groups.proofs.Multiples.{times-mul, times-mod}
 use Rattle.number_facts.proofs.CongruenceLaws.{multiples}
-use Rattle.edwards.specs.Eighths.{HasEighths, IsTold, IsEightTimes}
+use Rattle.edwards.specs.Eighths.{HasEighths, IsEightTimes}
 use Rattle.edwards.specs.Laws.CurveLaws.{same_coordinates}
 use Rattle.edwards.specs.Laws.Eighths.{eighth_powers_tell}
 use Rattle.jubjub.specs.declared.element.Jubjub.{Jubjub}
 use Rattle.jubjub.specs.Edwards.{Coordinates, cross, neutral, over, sum}
 use Rattle.jubjub.specs.Edwards as modulo
-use Rattle.jubjub.specs.Jubjub.{p, d, order, curve, IsOnJubjub, IsInSubgroup}
+use Rattle.jubjub.specs.Jubjub.{p, d, order, IsInSubgroup}
 use Rattle.jubjub.specs.Elements.{coordinates, jubjub}
 use Rattle.jubjub.specs.Membership.{minus_one_root, tangent_slope}
 use Rattle.jubjub.specs.Theorems.{PowersTellMembers}
 use Rattle.jubjub.specs.Laws.Cofactor.{cofactor_clears}
-use Rattle.jubjub.specs.Laws.Completeness.{complete, jubjub_is_complete}
+use Rattle.jubjub.specs.Laws.Completeness.{jubjub_is_complete}
 use Rattle.jubjub.specs.Laws.Elements.{element, kept, same_element}
 use Rattle.jubjub.specs.Laws.Group.{at-identity, at-plus}
-use Rattle.jubjub.specs.Laws.Modulus.{has_inverses}
 use Rattle.jubjub.specs.Laws.Points.{Point, points, points_laws, at-times, neutral_in_subgroup, sum_in_subgroup}
 use Rattle.jubjub.specs.Laws.Points.{zero_from}
 use Rattle.jubjub.specs.Laws.PrimeOrder.{inverse}

@@ -1,4 +1,4 @@
-use Rattle.std.proofs.Common.{◌≡◌, ◌-◌, ◌/◌, ◌%◌, ◌^◌, refl, sym, ◌∙◌, ap, true≢false}
+use Rattle.std.proofs.Common.{◌≡◌, ◌-◌, ◌/◌, ◌%◌, ◌^◌, sym, ◌∙◌, ap, true≢false}
 use Rattle.std.proofs.lemmas.Nat.{pow-mod}
 use Rattle.ark_wide_fields.specs.Laws.Fp256.{wide_equal_if_same}
 use Rattle.ark_wide_fields.proofs.PowerSteps.{unless}

@@ -1,9 +1,10 @@
-use Rattle.std.proofs.Common.{◌≡◌, ℕ, ◌+◌, ◌-◌, ◌*◌, ◌%◌, refl, ◌∙◌, ap}
-use Rattle.std.proofs.Math.Nat.{mod-mod}
-use Rattle.number_facts.proofs.CongruenceLaws.{sums, products}
+use Rattle.std.proofs.Common.{ℕ, ◌+◌, ◌-◌, ◌*◌, ◌%◌, refl, ◌∙◌, ap}
+use Rattle.number_facts.proofs.CongruenceLaws.{products}
+use Rattle.edwards.specs.Laws.Telling.{telling_is}
 use Rattle.jubjub.specs.Jubjub.{p}
 use Rattle.jubjub.specs.Membership.{minus_one_root, tangent_slope}
 use Rattle.jubjub.specs.Values.{value}
+use Rattle.jubjub.specs.Laws.Elements.{coordinates_of}
 use Rattle.jubjub.proofs.Steps.{sum_of, product_of}
 use Rattle.jubjub.proofs.membership.value_at.Goals as goal
 
@@ -50,3 +51,4 @@ returns c =
     (product_of p (value c.mul-outer.result) (value c.mul-outer.result) outer outer
     (value c.mul-4.result) is_outer is_outer
     c.mul-4.ensures) c.mul-5.ensures) is_second
+    ∙ ap (λ n. n % p) (telling_is p minus_one_root tangent_slope (coordinates_of c.args.x c.args.y))

@@ -1,4 +1,3 @@
-use Rattle.ark_wide_fields.proofs.PowerSteps.{unless}
 use Rattle.jubjub.proofs.element.Jubjub.from_coordinates.Goals as goal
 
 pub of-requires : goal.of-requires
