@@ -17,7 +17,7 @@ pub use extended::{
     plus_products, scale, zero,
 };
 pub use field::crossed_products;
-pub use laws::{points_are_a_group, sums_are_complete};
+pub use laws::{eighth_powers_tell, points_are_a_group, sums_are_complete};
 pub use multiples::multiple;
 pub use prepared::{Prepared, plus_prepared};
 pub use public::{multiple_public, sum_of_multiples_public};

@@ -1,17 +1,14 @@
 -- Elements of the prime subgroup by their coordinates.
-use Rattle.std.proofs.Common.{◌≡◌, ℕ, Bool, sym, ◌∙◌, subst}
-use Rattle.std.specs.Bool.{Decides}
+use Rattle.std.proofs.Common.{◌≡◌, ℕ, sym, ◌∙◌, subst}
 use Rattle.ark_groups.specs.Group.{times}
 use Rattle.jubjub.specs.declared.element.Jubjub.{Jubjub}
-use Rattle.jubjub.specs.Edwards.{Coordinates, neutral}
-use Rattle.jubjub.specs.Jubjub.{order, curve, IsOnJubjub, IsInSubgroup}
-use Rattle.jubjub.specs.Extended.{Extended, Stands}
+use Rattle.jubjub.specs.Edwards.{Coordinates}
+use Rattle.jubjub.specs.Jubjub.{curve, IsInSubgroup}
 use Rattle.jubjub.specs.Values.{Fr, value}
 use Rattle.jubjub.specs.Elements.{coordinates, jubjub}
 use Rattle.jubjub.specs.Laws.Elements.{same_element, coordinates_of}
 use Rattle.edwards.specs.Laws.CurveLaws.{same_coordinates}
 use Rattle.jubjub.specs.Laws.Group.{coordinates-times}
-use Rattle.jubjub.proofs.MultiplesOnCurve.{multiple_on_curve}
 
 -- ---- elements by two elements of the field
 
@@ -30,12 +27,3 @@ made_is e f x y a is_x is_y made of_f = same_element e f (made_at e x y a is_x i
 
 pub times_in_subgroup : (n : ℕ) (a : Jubjub) → IsInSubgroup (times curve n (coordinates a))
 times_in_subgroup n a = subst IsInSubgroup (coordinates-times n a) ((times jubjub n a).in_subgroup)
-
--- ---- the test of the subgroup
-
-pub order_shows : (a : Coordinates) → IsOnJubjub a → (m : Extended) (k : ℕ) (b : Bool) → k ≡ order
-    → Stands m (times curve k a) → ((s : Coordinates) → IsOnJubjub s → Stands m s → Decides b (s ≡ neutral))
-    → Decides b (times curve order a ≡ neutral)
-order_shows a on m k b is_order of_m test =
-    test (times curve order a) (multiple_on_curve order a on)
-    (subst (λ n. Stands m (times curve n a)) is_order of_m)

@@ -1,6 +1,7 @@
 pub mod GroupLaws
 pub mod MultiplesOnCurve
 pub mod PointTests
+pub mod Steps
 pub mod Spelled
 pub mod ItemBytes
 pub mod Totals

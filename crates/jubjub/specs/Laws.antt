@@ -18,3 +18,4 @@ pub mod Exponent
 pub mod Doubles
 pub mod Whole
 pub mod Cofactor
+pub mod Membership

@@ -9,5 +9,6 @@ pub mod Tables
 pub mod Compressed
 pub mod Decoding
 pub mod Draws
+pub mod Membership
 pub mod Theorems
 pub mod Laws

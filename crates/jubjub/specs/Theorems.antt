@@ -1,10 +1,11 @@
 -- What is proved of the curve and of its prime subgroup.
-use Rattle.std.specs.Prelude.{◌≡◌, ℕ, ◌+◌, ◌-◌, ◌*◌, ◌%◌, ◌<◌}
+use Rattle.std.specs.Prelude.{◌≡◌, ℕ, ◌+◌, ◌-◌, ◌*◌, ◌/◌, ◌%◌, ◌^◌, ◌<◌, ◌↔◌}
 use Rattle.ark_groups.specs.Group.{times}
 pub use Rattle.edwards.specs.Curves.{IsCommutativeGroupOn}
 use Rattle.jubjub.specs.declared.element.Jubjub.{Jubjub}
 use Rattle.jubjub.specs.Edwards.{Coordinates, cross, over}
 use Rattle.jubjub.specs.Jubjub.{p, d, order, curve, IsOnJubjub, IsInSubgroup}
+use Rattle.jubjub.specs.Membership.{minus_one_root, member_value}
 use Rattle.jubjub.specs.Elements.{coordinates, jubjub, base}
 
 -- a quotient times its divisor is the dividend, modulo p, if p does not divide the divisor
@@ -19,6 +20,14 @@ SumsOnJubjubAreComplete = (a b : Coordinates) → IsOnJubjub a → IsOnJubjub b
 -- eight times each point of the curve is in the subgroup
 abbrev pub CofactorClears : Type 0
 CofactorClears = (a : Coordinates) → IsOnJubjub a → IsInSubgroup (times curve 8 a)
+
+-- A point of the curve is in the subgroup: over x = 0 exactly with y = 1, over y = 0 never, and else exactly where the
+-- power (p - 1) / 8 of its value is the square root of -1.
+pub record PowersTellMembers : Type 0 where
+  pub over_zero : (a : Coordinates) → IsOnJubjub a → a.x ≡ 0 → IsInSubgroup a ↔ (a.y ≡ 1)
+  pub none_at_zero : (a : Coordinates) → IsOnJubjub a → a.y ≡ 0 → IsInSubgroup a → ⊥
+  pub elsewhere : (a : Coordinates) → IsOnJubjub a → (a.x ≡ 0 → ⊥) → (a.y ≡ 0 → ⊥)
+      → IsInSubgroup a ↔ (member_value a ^ ((p - 1) / 8) % p ≡ minus_one_root)
 
 -- an element is its coordinates: these are in the subgroup, each pair in it is one element's, and no other's
 pub record ElementsAreCoordinates : Type 0 where

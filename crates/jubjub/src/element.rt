@@ -8,12 +8,11 @@ ghost use Rattle.jubjub.specs.Laws.Points.{in_subgroup_alike};
 
 use crate::bytes::bytes_of_point;
 use crate::extended::{Extended, crossed, lifted, plus_crossed};
-use crate::multiple::{
-    is_on_curve, order_of_subgroup, public_multiple, public_sum_of_multiples, scalar_multiple,
-};
+use crate::membership::is_member;
+use crate::multiple::{is_on_curve, public_multiple, public_sum_of_multiples, scalar_multiple};
 use ark_groups::ff::{Field, Words};
 use ark_wide_fields::Bls12_381Fr;
-use edwards::{affine, doubled, is_neutral};
+use edwards::{affine, doubled};
 
 mod absorb;
 mod digest;
@@ -196,7 +195,7 @@ impl Jubjub {
         if !is_on_curve(x, y) {
             return None;
         }
-        if !is_neutral(public_multiple(lifted(x, y), order_of_subgroup())) {
+        if !is_member(x, y) {
             return None;
         }
         Some(Jubjub::of(x, y))

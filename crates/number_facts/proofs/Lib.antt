@@ -8,3 +8,4 @@ pub mod Orders
 pub mod Units
 pub mod Certificates
 pub mod SquareRoots
+pub mod Residues

@@ -7,7 +7,7 @@ use Rattle.ark_wide_fields.specs.Laws.Bls12_381Fr.{prime_factors, generates}
 use Rattle.jubjub.specs.Jubjub.{p, d}
 use Rattle.jubjub.specs.Laws.Modulus.{d_is_no_square}
 
-pub jubjub_is_complete : IsComplete p d
+unfoldable pub jubjub_is_complete : IsComplete p d
 jubjub_is_complete = record {
   generator = 7;
   factors = prime_factors;

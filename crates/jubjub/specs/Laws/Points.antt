@@ -40,7 +40,7 @@ IsZero : Point → Type 0
 IsZero a = times points order a ≡ points.identity
 
 -- the order's multiple of a point is zero where that of its coordinates is
-zero_from : (a : Coordinates) (s : IsInSubgroup a) → times points order (record { at = a; on = s.on_curve })
+pub zero_from : (a : Coordinates) (s : IsInSubgroup a) → times points order (record { at = a; on = s.on_curve })
     ≡ points.identity
 zero_from a s = curves.same_point p d jubjub_is_complete _ _
     (at-times order (record { at = a; on = s.on_curve }) ∙ s.of_order)
