@@ -70,9 +70,9 @@ cut size more k own own_is above few many =
           let short : size < 2 ^ suc k = elim (cases_lt size (2 ^ suc k)) [
             | inl less ↦ less
             | inr ge ↦ absurd (many (
-              let whole : size ≡ 2 ^ suc k = omega arith in
-              omega (arith, ap count_ones whole, power-one (suc k))
-            ))
+                let whole : size ≡ 2 ^ suc k = omega arith in
+                omega (arith, ap count_ones whole, power-one (suc k))
+                ))
           ] in
           record {
             ones = omega (arith, first, ap count_ones rest, ones-less k size high short);

@@ -165,8 +165,11 @@ module _ (hash : NodeHash) (none empty : Digest) where
       → peaks_hash hash none k size peaks more ≡ tree_hash (joined hash) (Ok empty) k (there (digests ++ more))
   own-hash zero digests size peaks more own few some = elim (one-or-not (length peaks + length more)) [
     | inl one ↦ known-one hash none 0 size peaks more one ∙ sym (own-one 0 digests size peaks more own few one)
-    | inr many ↦ absurd (omega (arith, some-levels 0 size (length more) some few
-        (λ one. many (omega (arith, one, peaks-count own)))))
+    | inr many ↦ absurd (omega (
+      arith,
+      some-levels 0 size (length more) some few
+          (λ one. many (omega (arith, one, peaks-count own))),
+    ))
   ]
   own-hash (suc k) digests size peaks more own few some = elim (one-or-not (length peaks + length more)) [
     | inl one ↦ known-one hash none (suc k) size peaks more one ∙ sym (own-one (suc k) digests size peaks more own few
@@ -213,9 +216,9 @@ module _ (hash : NodeHash) (none empty : Digest) where
                 let short : size < 2 ^ suc k = elim (cases_lt size (2 ^ suc k)) [
                   | inl less ↦ less
                   | inr ge ↦ absurd (many (
-                    let whole : size ≡ 2 ^ suc k = omega (arith, ge, few) in
-                    omega (arith, count, ap count_ones whole, power-one (suc k), few)
-                  ))
+                      let whole : size ≡ 2 ^ suc k = omega (arith, ge, few) in
+                      omega (arith, count, ap count_ones whole, power-one (suc k), few)
+                      ))
                 ] in
                 let nothing : 2 ^ k - 2 ^ k ≡ 0 = omega arith in
                 known-both hash none k size (2 ^ k) peaks more (omega (arith, high)) many above
@@ -224,8 +227,11 @@ module _ (hash : NodeHash) (none empty : Digest) where
                 ∙ ap (λ n. joined hash (peaks_hash hash none k (2 ^ k) (take 1 peaks) (take n more))
                 (peaks_hash hash none k (size - 2 ^ k) (drop 1 peaks) (drop n more))) nothing
                 ∙ ap (λ o. joined hash o (peaks_hash hash none k (size - 2 ^ k) (drop 1 peaks) more))
-                (known-one hash none k (2 ^ k) (take 1 peaks) [] (omega (arith, length-take-le 1 peaks (omega
-                (arith, count, some-ones size (omega (arith, pow_pos k, high))))))
+                (known-one hash none k (2 ^ k) (take 1 peaks) [] (omega (
+                  arith,
+                  length-take-le 1 peaks (omega
+                      (arith, count, some-ones size (omega (arith, pow_pos k, high)))),
+                ))
                 ∙ sym (first-whole k digests size peaks more own high short))
                 ∙ ap (λ o. joined hash (tree_hash (joined hash) (Ok empty) k (take (2 ^ k) (rows k digests size peaks
                 more own))) o) (own-hash k (drop (2 ^ k) digests) (size - 2 ^ k) (drop 1 peaks) more
@@ -260,8 +266,12 @@ front-joined hash empty k list peaks size long low high some first rest = record
       let behind_long = length-map {B = Outcome Digest} behind Ok in
       let short : length behind ≡ size - 2 ^ k = rest.size_is in
       let front_long = length-take-le (2 ^ k) (there {E = Error} list) (omega (arith, all, long, low)) in
-      frontier-any (joined hash) (Ok none) (length list) (suc k) (there list) (omega (arith, all, pow_above (length
-      list))) (omega (arith, all, long, high))
+      frontier-any (joined hash) (Ok none) (length list) (suc k) (there list) (omega (
+        arith,
+        all,
+        pow_above (length
+            list),
+      )) (omega (arith, all, long, high))
       ∙ frontier-first (joined hash) (Ok none) k (there list) (omega (arith, all, long, low)) (omega
       (arith, all, long, high))
       ∙ ap (λ o. o ∷ frontier (joined hash) (Ok none) k (drop (2 ^ k) (there list))) (tree_hash-some (joined hash)
@@ -381,8 +391,8 @@ module _ (hash : NodeHash) (old empty : Digest) (digests peaks : List Digest) (s
           let less : s < 2 ^ k = elim (cases_lt s (2 ^ k)) [
             | inl less ↦ less
             | inr ge ↦ absurd (many (
-              let whole : s ≡ 2 ^ k = omega (arith, ge, low) in ap count_ones whole ∙ power-one k
-            ))
+                let whole : s ≡ 2 ^ k = omega (arith, ge, low) in ap count_ones whole ∙ power-one k
+                ))
           ] in
           let from = left-first k place in
           let Front : ℕ → ℕ → Type 0 = λ m n. IsFrontier hash (drop m digests) s (drop n peaks) in

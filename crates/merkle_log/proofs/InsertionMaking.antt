@@ -29,52 +29,52 @@ pairs-there hash (a ∷ b ∷ row) next is =
 
 -- The frontier of the first digests is that of the first ones of a row above, and these behind.
 pub record Peaking (hash : NodeHash) (rows : ℕ → List Digest) (size level left : ℕ) (behind : List Digest) : Type 0
-    where
-  pub at : (empty : Digest) (k : ℕ) → left < 2 ^ k
-      → frontier (joined hash) (Ok empty) size (there (take size (rows 0)))
-      ≡ frontier (joined hash) (Ok empty) k (there (take left (rows level))) ++ there behind
+  where
+    pub at : (empty : Digest) (k : ℕ) → left < 2 ^ k
+        → frontier (joined hash) (Ok empty) size (there (take size (rows 0)))
+        ≡ frontier (joined hash) (Ok empty) k (there (take left (rows level))) ++ there behind
 
 module _ {hash : NodeHash} {rows : ℕ → List Digest} {size level left : ℕ} {behind : List Digest}
     (p : Peaking hash rows size level left behind) (stored : IsStored hash rows) (inside : left ≤ length (rows level))
-    where
-  long : length (there {E = Error} (take left (rows level))) ≡ left
-  long = length-map {B = Outcome Digest} (take left (rows level)) Ok ∙ length-take-le left (rows level) inside
+  where
+    long : length (there {E = Error} (take left (rows level))) ≡ left
+    long = length-map {B = Outcome Digest} (take left (rows level)) Ok ∙ length-take-le left (rows level) inside
 
-  above : complete_pairs (joined hash) (there (take left (rows level))) ≡ there (take (left / 2) (rows (suc level)))
-  above = pairs-there hash (take left (rows level)) (take (left / 2) (rows (suc level))) (row_pairs-front hash left
-      (rows level) (rows (suc level)) (stored.pairs level))
+    above : complete_pairs (joined hash) (there (take left (rows level))) ≡ there (take (left / 2) (rows (suc level)))
+    above = pairs-there hash (take left (rows level)) (take (left / 2) (rows (suc level))) (row_pairs-front hash left
+        (rows level) (rows (suc level)) (stored.pairs level))
 
-  up : (behind : List Digest) → Peaking hash rows size (suc level) (left / 2) behind → Peaking hash rows size
-      (level + 1) (left / 2) behind
-  up behind p =
-      let e : suc level ≡ level + 1 = omega arith in
-      let P : ℕ → Type 0 = λ n. Peaking hash rows size n (left / 2) behind in subst P e p
+    up : (behind : List Digest) → Peaking hash rows size (suc level) (left / 2) behind → Peaking hash rows size
+        (level + 1) (left / 2) behind
+    up behind p =
+        let e : suc level ≡ level + 1 = omega arith in
+        let P : ℕ → Type 0 = λ n. Peaking hash rows size n (left / 2) behind in subst P e p
 
-  pub peaking-even : left % 2 ≡ 0 → Peaking hash rows size (level + 1) (left / 2) behind
-  peaking-even even = up behind (record {
-    at = λ empty k high. p.at empty (suc k) (omega (arith, high, twice k)) ∙ ap (λ l. l ++ there behind) (frontier-even
-        (joined hash) (Ok empty) k (there (take left (rows level))) (omega (arith, long, even))
-        ∙ ap (frontier (joined hash) (Ok empty) k) above);
-  })
+    pub peaking-even : left % 2 ≡ 0 → Peaking hash rows size (level + 1) (left / 2) behind
+    peaking-even even = up behind (record {
+      at = λ empty k high. p.at empty (suc k) (omega (arith, high, twice k)) ∙ ap (λ l. l ++ there behind) (frontier-even
+          (joined hash) (Ok empty) k (there (take left (rows level))) (omega (arith, long, even))
+          ∙ ap (frontier (joined hash) (Ok empty) k) above);
+    })
 
-  pub peaking-odd : left % 2 ≡ 1 → Peaking hash rows size (level + 1) (left / 2)
-      (get_or (rows level) (left - 1) [] ∷ behind)
-  peaking-odd odd = up (get_or (rows level) (left - 1) [] ∷ behind) (record {
-    at = λ empty k high.
-        let row = take left (rows level) in
-        let last : get_or (there {E = Error} row) (length (there {E = Error} row) - 1) (Ok empty)
-        ≡ Ok (get_or (rows level) (left - 1) []) =
-        ap (λ n. get_or (there {E = Error} row) (n - 1) (Ok empty)) long
-        ∙ get_or-map Ok row (left - 1) [] (Ok empty) (omega (arith, length-take-le left (rows level) inside, odd))
-        ∙ ap Ok (get_or-take left (rows level) (left - 1) [] (omega (arith, odd))) in
-        p.at empty (suc k) (omega (arith, high, twice k)) ∙ ap (λ l. l ++ there behind) (frontier-odd
-        (joined hash) (Ok empty) k (there row) (omega (arith, long, odd))
-        ∙ ap (λ l. l ++ (get_or (there {E = Error} row) (length (there {E = Error} row) - 1) (Ok empty) ∷ []))
-        (ap (frontier (joined hash) (Ok empty) k) above)
-        ∙ ap (λ o. frontier (joined hash) (Ok empty) k (there (take (left / 2) (rows (suc level)))) ++ (o ∷ [])) last)
-        ∙ append_assoc (frontier (joined hash) (Ok empty) k (there (take (left / 2) (rows (suc level)))))
-        (Ok (get_or (rows level) (left - 1) []) ∷ []) (there behind);
-  })
+    pub peaking-odd : left % 2 ≡ 1 → Peaking hash rows size (level + 1) (left / 2)
+        (get_or (rows level) (left - 1) [] ∷ behind)
+    peaking-odd odd = up (get_or (rows level) (left - 1) [] ∷ behind) (record {
+      at = λ empty k high.
+          let row = take left (rows level) in
+          let last : get_or (there {E = Error} row) (length (there {E = Error} row) - 1) (Ok empty)
+          ≡ Ok (get_or (rows level) (left - 1) []) =
+          ap (λ n. get_or (there {E = Error} row) (n - 1) (Ok empty)) long
+          ∙ get_or-map Ok row (left - 1) [] (Ok empty) (omega (arith, length-take-le left (rows level) inside, odd))
+          ∙ ap Ok (get_or-take left (rows level) (left - 1) [] (omega (arith, odd))) in
+          p.at empty (suc k) (omega (arith, high, twice k)) ∙ ap (λ l. l ++ there behind) (frontier-odd
+          (joined hash) (Ok empty) k (there row) (omega (arith, long, odd))
+          ∙ ap (λ l. l ++ (get_or (there {E = Error} row) (length (there {E = Error} row) - 1) (Ok empty) ∷ []))
+          (ap (frontier (joined hash) (Ok empty) k) above)
+          ∙ ap (λ o. frontier (joined hash) (Ok empty) k (there (take (left / 2) (rows (suc level)))) ++ (o ∷ [])) last)
+          ∙ append_assoc (frontier (joined hash) (Ok empty) k (there (take (left / 2) (rows (suc level)))))
+          (Ok (get_or (rows level) (left - 1) []) ∷ []) (there behind);
+    })
 
 -- a peak is written before those behind it
 pub peak-put : {A : Type 0} (numbers : A → Digest) (proof : List A) (at before : ℕ) (peak : A) (seen : Digest)

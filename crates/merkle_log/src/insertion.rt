@@ -185,7 +185,13 @@ pub fn root_after_insertion<D: DigestItem, T: TreeHasher<D, D>>(
         → AnswersBy (option_map D.numbers)
         (some_digest (merkle_tree_hash hash empty (digests ++ added))) result }
 {
-    inserted_root(&mut Refusing::new(alloc, hasher), old_root, size, proof, more)
+    inserted_root(
+        &mut Refusing::new(alloc, hasher),
+        old_root,
+        size,
+        proof,
+        more,
+    )
 }
 
 /// Returns the root after an insertion by the bytes of a proof, as `root_after_insertion` does by a proof.

@@ -9,7 +9,10 @@ returns-clause-bound g c =
     let numbers = g.D.Numbered.numbers in
     let hash = (g.T.TreeHasher.hashes c.args.hasher.now).pair.upper in
     let digests = digests_of numbers c.in_ok-proof.proof in
-    answered-each _ _ c.root_after_insertion.result _ (λ new is root some.
-    (digests, c.in_ok-proof.ensures, insertion-bound hash (numbers c.args.old_root.now) c.args.size digests
-    (map numbers c.args.more.now) root (is ∙ ap Ok some)))
+    answered-each _ _ c.root_after_insertion.result _ (λ new is root some. (
+      digests,
+      c.in_ok-proof.ensures,
+      insertion-bound hash (numbers c.args.old_root.now) c.args.size digests
+          (map numbers c.args.more.now) root (is ∙ ap Ok some),
+    ))
     (rw (c.deref.ensures.value) at c.root_after_insertion.ensures.answer)

@@ -38,6 +38,9 @@ returns-in-None g c =
     let numbers = g.D.Numbered.numbers in
     let low : c.args.size + length (map numbers c.args.more.now) ≤ 2 ^ c.levels_above.result = omega
     (arith, c.levels_above.ensures.covers, length-map c.args.more.now numbers) in
-    rw (known-levels (g.H.NodeHasher.hash c.args.hasher.now) old
-    c.levels_above.result c.args.size (map numbers c.args.peaks.now) (map numbers c.args.more.now) low
-    ∙ (rw (c.in-None.is) at (c.in_ok-root.ensures.hashed old)), ← c.first_known.ensures old) c.copied-in-None.ensures
+    rw (
+      known-levels (g.H.NodeHasher.hash c.args.hasher.now) old
+          c.levels_above.result c.args.size (map numbers c.args.peaks.now) (map numbers c.args.more.now) low
+          ∙ (rw (c.in-None.is) at (c.in_ok-root.ensures.hashed old)),
+      ← c.first_known.ensures old,
+    ) c.copied-in-None.ensures
