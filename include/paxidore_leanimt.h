@@ -1,6 +1,6 @@
-/* Kept LeanIMTs whose elements are changed, as where members leave, and insertions of many that whoever has the old root
- * alone checks. The rest of the library is in paxidore.h, whose
- * first comment says what holds of buffers, pointers and answers, and whose part on LeanIMTs says what is kept. */
+/* Kept LeanIMTs whose elements are changed, as where members leave, and insertions of many elements, for whoever has
+ * the root alone. The rest of the library is in paxidore.h, whose first comment says what holds of buffers, pointers
+ * and answers, and whose part on LeanIMTs says what is kept. */
 #ifndef PAXIDORE_LEANIMT_H
 #define PAXIDORE_LEANIMT_H
 
@@ -27,9 +27,9 @@ PAXIDORE_ANSWERS PAXIDORE_NOT_NULL((3)) int32_t paxidore_poseidon_log_insertion(
 
 /* Writes to `new_root` the root of a log of `size` elements with `count` more behind them, by its root alone: what
  * Semaphore's insertMany comes to. OK: so it is for every list of so many with this root, or two different pairs with
- * one hash are at hand. NOT_SHOWN where the proof does not make the root, E_COUNT, E_SIZE for no element in the log,
- * of which paxidore_poseidon_root makes the first root, and for 2^63 and above together, E_INVALID for an element that
- * is not below the modulus, E_TRUNCATED and E_INVALID for bytes of fewer or more digests than `size` has ones, E_INVALID
+ * one hash are at hand. NOT_SHOWN where the proof does not make the root, E_COUNT, E_SIZE for no element in the log, of
+ * which paxidore_poseidon_root makes the first root, and for 2^63 and above together, E_INVALID for an element that is
+ * not below the modulus, E_TRUNCATED and E_INVALID for bytes of fewer or more digests than `size` has ones, E_INVALID
  * for a digest that is not below the modulus, E_MEMORY. Each but OK leaves `new_root`. */
 PAXIDORE_ANSWERS PAXIDORE_NOT_NULL((1, 4)) int32_t paxidore_poseidon_log_verify_insertion(uint8_t new_root[32],
     const uint8_t *table, size_t table_len, const uint8_t root[32], size_t size,

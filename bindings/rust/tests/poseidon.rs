@@ -213,12 +213,21 @@ fn insertions_are_those_of_a_model() -> Result<(), Refused> {
         for count in [0, 1, 2, 4, 40 - size] {
             let more = &given[size..size + count];
             let (new_root, _) = model(&table, given[..size + count].to_vec(), 0);
-            assert_eq!(table.verify_insertion(&root, size, more, &proof)?, Some(new_root));
+            assert_eq!(
+                table.verify_insertion(&root, size, more, &proof)?,
+                Some(new_root)
+            );
         }
         let mut other = proof.clone();
         other[7] ^= 1;
-        assert_eq!(table.verify_insertion(&root, size, &given[..2], &other)?, None);
-        assert_eq!(table.verify_insertion(&given[39], size, &given[..2], &proof)?, None);
+        assert_eq!(
+            table.verify_insertion(&root, size, &given[..2], &other)?,
+            None
+        );
+        assert_eq!(
+            table.verify_insertion(&given[39], size, &given[..2], &proof)?,
+            None
+        );
         assert_ne!(
             table.verify_insertion(&root, size, &[given[1], given[0]], &proof)?,
             table.verify_insertion(&root, size, &given[..2], &proof)?
@@ -239,13 +248,31 @@ fn insertions_refuse() -> Result<(), Refused> {
         assert_eq!(log.insertion_proof(size), Err(Refused::Size));
     }
     for size in [0, (1 << 63) - 3, 1 << 63, usize::MAX] {
-        assert_eq!(two.verify_insertion(&root, size, &given, &proof), Err(Refused::Size));
+        assert_eq!(
+            two.verify_insertion(&root, size, &given, &proof),
+            Err(Refused::Size)
+        );
     }
-    assert_eq!(three.verify_insertion(&root, 3, &given, &proof), Err(Refused::Count));
-    assert_eq!(two.verify_insertion(&root, 3, &[[255; 32]], &proof), Err(Refused::Invalid));
-    assert_eq!(two.verify_insertion(&root, 3, &given, &proof[1..]), Err(Refused::Truncated));
-    assert_eq!(two.verify_insertion(&root, 3, &given, &[0; 65]), Err(Refused::Invalid));
-    assert_eq!(two.verify_insertion(&root, 3, &given, &[255; 64]), Err(Refused::Invalid));
+    assert_eq!(
+        three.verify_insertion(&root, 3, &given, &proof),
+        Err(Refused::Count)
+    );
+    assert_eq!(
+        two.verify_insertion(&root, 3, &[[255; 32]], &proof),
+        Err(Refused::Invalid)
+    );
+    assert_eq!(
+        two.verify_insertion(&root, 3, &given, &proof[1..]),
+        Err(Refused::Truncated)
+    );
+    assert_eq!(
+        two.verify_insertion(&root, 3, &given, &[0; 65]),
+        Err(Refused::Invalid)
+    );
+    assert_eq!(
+        two.verify_insertion(&root, 3, &given, &[255; 64]),
+        Err(Refused::Invalid)
+    );
     Ok(())
 }
 
