@@ -160,6 +160,80 @@ static void changed(void) {
     CHECK(paxidore_poseidon_log_set(stored[0], stored_len, table, table_len, size, 63, elements[5]) == PAXIDORE_OK);
 }
 
+/* Elements behind a log of each size, for whoever has its root: the new root is that of the model's longer list. */
+static void inserted(void) {
+    static uint8_t stored[2 * MOST][32];
+    size_t stored_len = 0, len;
+    CHECK(paxidore_poseidon_log_append(stored[0], 2 * MOST, &stored_len, table, table_len, NULL, 0, 0, elements[0], MOST - 1) == PAXIDORE_OK);
+    for (size_t size = 1; size < MOST - 1; size++) {
+        uint8_t root[32], expected[32], new_root[32], proof[PAXIDORE_LOG_PATHBYTES_MAX], beside[7][32];
+        size_t ones = 0, at = 0;
+        for (size_t left = size; left > 0; left /= 2)
+            ones += left % 2;
+        len = 7;
+        CHECK(paxidore_poseidon_log_insertion(proof, 32 * ones - 1, &len, stored[0], stored_len, size) == PAXIDORE_E_ROOM && len == 32 * ones);
+        CHECK(paxidore_poseidon_log_insertion(proof, sizeof proof, &len, stored[0], stored_len, size) == PAXIDORE_OK && len == 32 * ones);
+        /* by the rule: each complete tree is a list of its own */
+        for (size_t tree = (size_t)1 << 6, digest = 0; tree > 0; tree /= 2) {
+            if (size & tree) {
+                uint8_t kept_elements[MOST][32];
+                memcpy(kept_elements, elements, sizeof elements);
+                memmove(elements[0], kept_elements[at], 32 * tree);
+                model(tree, 0, expected, beside);
+                memcpy(elements, kept_elements, sizeof elements);
+                CHECK(memcmp(proof + 32 * digest++, expected, 32) == 0);
+                at += tree;
+            }
+        }
+        model(size, 0, root, beside);
+        for (size_t count = 0; size + count < MOST; count += 1 + count / 2) {
+            model(size + count, 0, expected, beside);
+            memset(new_root, 0xaa, 32);
+            CHECK(paxidore_poseidon_log_verify_insertion(new_root, table, table_len, root, size, elements[size], count, proof, len) ==
+                  PAXIDORE_OK);
+            CHECK(memcmp(new_root, expected, 32) == 0);
+            if (count == 0)
+                continue;
+            /* another proof, and another root */
+            memset(new_root, 0xaa, 32);
+            proof[32 * (count % ones) + count % 31] ^= 1;
+            CHECK(paxidore_poseidon_log_verify_insertion(new_root, table, table_len, root, size, elements[size], count, proof, len) ==
+                  PAXIDORE_NOT_SHOWN);
+            proof[32 * (count % ones) + count % 31] ^= 1;
+            CHECK(paxidore_poseidon_log_verify_insertion(new_root, table, table_len, expected, size, elements[size], count, proof, len) ==
+                  PAXIDORE_NOT_SHOWN);
+            CHECK(new_root[0] == 0xaa && new_root[31] == 0xaa);
+        }
+        CHECK(paxidore_poseidon_log_verify_insertion(new_root, table, table_len, root, size, elements[0], 2, proof, len - 1) ==
+              PAXIDORE_E_TRUNCATED);
+    }
+    /* what is refused leaves the root */
+    uint8_t new_root[32], root[32], proof[3 * 32 + 1], far[2][32];
+    const size_t most = (size_t)1 << 63;
+    memset(new_root, 0xaa, 32), memset(far, 0, sizeof far), memcpy(far[1], MODULUS, 32);
+    CHECK(paxidore_poseidon_log_root(root, table, table_len, stored[0], stored_len, 7) == PAXIDORE_OK);
+    CHECK(paxidore_poseidon_log_insertion(proof, sizeof proof, &len, stored[0], stored_len, 7) == PAXIDORE_OK && len == 96);
+#define STAYS(call, code) CHECK((call) == (code) && new_root[0] == 0xaa && new_root[31] == 0xaa)
+    STAYS(paxidore_poseidon_log_verify_insertion(new_root, three, three_len, root, 0, far[0], 2, proof, 95), PAXIDORE_E_COUNT);
+    STAYS(paxidore_poseidon_log_verify_insertion(new_root, table, table_len - 1, root, 7, far[0], 1, proof, 96), PAXIDORE_E_TRUNCATED);
+    STAYS(paxidore_poseidon_log_verify_insertion(new_root, table, table_len, root, 0, far[0], 2, NULL, 0), PAXIDORE_E_SIZE);
+    STAYS(paxidore_poseidon_log_verify_insertion(new_root, table, table_len, root, most - 2, far[0], 2, proof, 96), PAXIDORE_E_SIZE);
+    STAYS(paxidore_poseidon_log_verify_insertion(new_root, table, table_len, root, SIZE_MAX, far[0], 2, proof, 96), PAXIDORE_E_SIZE);
+    STAYS(paxidore_poseidon_log_verify_insertion(new_root, table, table_len, root, 7, far[0], 2, proof, 95), PAXIDORE_E_INVALID);
+    STAYS(paxidore_poseidon_log_verify_insertion(new_root, table, table_len, root, 7, far[0], 1, proof, 97), PAXIDORE_E_INVALID);
+    STAYS(paxidore_poseidon_log_verify_insertion(new_root, table, table_len, root, 7, far[0], 1, NULL, 0), PAXIDORE_E_TRUNCATED);
+    STAYS(paxidore_poseidon_log_verify_insertion(new_root, table, table_len, root, most - 3, far[0], 1, proof, 96), PAXIDORE_E_TRUNCATED);
+    memcpy(proof + 32, MODULUS, 32);
+    STAYS(paxidore_poseidon_log_verify_insertion(new_root, table, table_len, root, 7, far[0], 1, proof, 96), PAXIDORE_E_INVALID);
+    len = 7, memset(proof, 0xbb, sizeof proof);
+#define EMPTY(call) CHECK((call) == PAXIDORE_E_SIZE && len == 7 && proof[0] == 0xbb)
+    EMPTY(paxidore_poseidon_log_insertion(proof, sizeof proof, &len, stored[0], stored_len, 0));
+    EMPTY(paxidore_poseidon_log_insertion(proof, sizeof proof, &len, NULL, 0, 1));
+    EMPTY(paxidore_poseidon_log_insertion(proof, sizeof proof, &len, stored[0], stored_len - 1, MOST - 1));
+    EMPTY(paxidore_poseidon_log_insertion(proof, sizeof proof, &len, stored[0], stored_len, most));
+    EMPTY(paxidore_poseidon_log_insertion(proof, sizeof proof, &len, stored[0], stored_len, SIZE_MAX));
+}
+
 static void refusals(void) {
     uint8_t root[32], same[32], bad[3][32], path[64], stored[8][32], more[8][32];
     size_t len = 7;
@@ -224,6 +298,7 @@ int main(void) {
     for (size_t step = 1; step < 40; step += 6)
         kept(step);
     refusals();
+    inserted();
     changed();
     printf("%d passed, %d failed\n", passed, failed);
     return failed != 0;

@@ -107,6 +107,8 @@ static int32_t call(int which) {
     case 28: return paxidore_poseidon_log_inclusion(to_path, sizeof to_path, &to_len, table, table_len, element_log, 7, 4, 2);
     case 29: return paxidore_poseidon_log_set(to_log, 7, table, table_len, 4, 2, ZEROS);
     case 30: return paxidore_log_multi_inclusion(to_proof, sizeof to_proof, &to_len, kept, 15, 8, INDEXES, 3);
+    case 31:
+        return paxidore_poseidon_log_verify_insertion(to_root, table, table_len, element_root, 4, elements, 2, element_root, 32);
     default:
         return paxidore_log_verify_multi_inclusion(root, 8, INDEXES, 3, (const uint8_t *)"bbbeeefff", 9, SHOWN, 3, log_proof, log_proof_len);
     }
@@ -155,7 +157,7 @@ int main(void) {
         paxidore_poseidon_path(element_path, sizeof element_path, &element_path_len, table, table_len, elements, 4, 2) != PAXIDORE_OK ||
         paxidore_poseidon_log_append(element_log, 7, &to_len, table, table_len, NULL, 0, 0, elements, 4) != PAXIDORE_OK)
         failed++;
-    for (int which = 0; which < 32; which++) {
+    for (int which = 0; which < 33; which++) {
         memcpy(to_state, begun, sizeof begun);
         memcpy(to_log, element_log, sizeof to_log);
         calls = 0;
@@ -198,6 +200,9 @@ int main(void) {
         failed++;
     if (paxidore_log_consistency(to_path, sizeof to_path, &to_len, kept, 15, 4, 8) != PAXIDORE_OK || to_len != 32 ||
         memcmp(to_path, halves[1], 32) != 0)
+        failed++;
+    if (paxidore_poseidon_log_insertion(to_path, sizeof to_path, &to_len, element_log, 7, 4) != PAXIDORE_OK || to_len != 32 ||
+        memcmp(to_path, element_root, 32) != 0)
         failed++;
     paxidore_sha256(to_root, LEAVES, 24);
     paxidore_blake2s(to_root, LEAVES, 24);

@@ -39,7 +39,7 @@ from ._library import (
 )
 from ._turn import Turn
 
-__all__ = ["MODULUS", "MOST_INPUTS", "ElementError", "Log", "hash", "hash_bytes", "path", "root", "verify"]
+__all__ = ["MODULUS", "MOST_INPUTS", "ElementError", "Log", "hash", "hash_bytes", "path", "root", "verify", "verify_insertion"]
 
 _table = _call("poseidon_table", ctypes.c_int32, ctypes.c_void_p, _size, ctypes.POINTER(_size), _size)
 _hash = _call("poseidon", ctypes.c_int32, ctypes.c_void_p, ctypes.c_uint32, _bytes, _size, _bytes, _size)
@@ -55,6 +55,8 @@ _log_kept = _call("log_kept", _size, _size)
 _log_root = _call("poseidon_log_root", ctypes.c_int32, ctypes.c_void_p, *_kept)
 _log_inclusion = _call("poseidon_log_inclusion", ctypes.c_int32, *_written, *_kept, _size)
 _log_set = _call("poseidon_log_set", ctypes.c_int32, ctypes.c_void_p, _size, _bytes, _size, _size, _size, _bytes)
+_log_insertion = _call("poseidon_log_insertion", ctypes.c_int32, *_written, ctypes.c_void_p, _size, _size)
+_verify_insertion = _call("poseidon_log_verify_insertion", ctypes.c_int32, ctypes.c_void_p, *_given, *_given)
 
 MODULUS = 0x30644E72E131A029B85045B68181585D2833E84879B9709143E1F593F0000001
 MOST_INPUTS = 16
@@ -164,6 +166,22 @@ def verify(root: int, size: int, index: int, element: int, path: bytes) -> bool:
     return bool(answer == 0)
 
 
+def verify_insertion(root: int, size: int, elements: Sequence[int], proof: bytes) -> "Optional[int]":
+    """The root of a log of ``size`` elements with these behind them, by its root alone: what Semaphore's ``insertMany`` comes to.
+
+    The proof is what ``Log.insertion_proof`` returns. ``None`` says that it was read and does not make the root. ``SizeError`` for a log of
+    no element, ``TruncatedProof``, ``InvalidProof`` where the proof has more bytes or a digest that is not below the modulus,
+    ``ElementError``, ``OutOfMemory``."""
+    table, place = _table_for(2), _word("size", size)
+    known, given = _element(root, "the root"), b"".join(map(_element, elements))
+    written = ctypes.create_string_buffer(DIGEST_BYTES)
+    behind = given, len(given) // DIGEST_BYTES, _exact("proof", proof), len(proof)
+    answer = _verify_insertion(written, table, len(table), known, place, *behind)
+    if answer < 0:
+        raise _refusal(answer)
+    return int.from_bytes(written.raw, "little") if answer == 0 else None
+
+
 # how many elements `Log.extend` appends at once, and the room for a path of any size
 _BATCH = 1024
 _PATH_BYTES = 63 * DIGEST_BYTES
@@ -260,6 +278,18 @@ class Log:
         if answer != 0:
             raise _refusal(answer)
         return ctypes.string_at(written, length.value)
+
+    def insertion_proof(self, *, size: "Optional[int]" = None) -> bytes:
+        """The bytes of the proof of an insertion behind the first ``size`` elements, for ``verify_insertion``: the roots of the complete
+        subtrees into which they fall, the largest first. ``SizeError`` for more than there are, and for none."""
+        written, length = ctypes.create_string_buffer(_PATH_BYTES), _size()
+        answer = self._turn.run(self._insertion_proof, (written, _PATH_BYTES, ctypes.byref(length)), size)
+        if answer != 0:
+            raise _refusal(answer)
+        return ctypes.string_at(written, length.value)
+
+    def _insertion_proof(self, before: Any, size: "Optional[int]") -> Any:
+        return _log_insertion(*before, *self._lent_digests(), self._size if size is None else _word("size", size))
 
     def _asked(self, call: Any, before: Any, size: "Optional[int]", *behind: int) -> Any:
         return call(*before, *self._lent(self._size if size is None else _word("size", size)), *behind)

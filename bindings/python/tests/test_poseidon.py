@@ -197,6 +197,81 @@ class Logs(unittest.TestCase):
         self.assertEqual(repr(log), "<paxidore.poseidon.Log of 3 elements>")
 
 
+def peaks(levels):
+    """The roots of the complete trees of a list, the largest first, by its levels."""
+    size = len(levels[0])
+    return [levels[level][(size >> level) - 1] for level in reversed(range(size.bit_length())) if size >> level & 1]
+
+
+class Insertions(unittest.TestCase):
+    def test_each_count_behind_each_size(self):
+        elements, log = [5 * i + 2 for i in range(40)], poseidon.Log()
+        log.append(elements)
+        roots = [None] + [lean_imt(elements[:size])[-1][0] for size in range(1, 41)]
+        for size in range(1, 34):
+            proof = log.insertion_proof(size=size)
+            self.assertEqual(proof, b"".join(peak.to_bytes(32, "little") for peak in peaks(lean_imt(elements[:size]))))
+            for count in (0, 1, 2, 3, 40 - size):
+                if size + count <= 40:
+                    more = elements[size : size + count]
+                    self.assertEqual(poseidon.verify_insertion(roots[size], size, more, proof), roots[size + count])
+        self.assertEqual(log.insertion_proof(), log.insertion_proof(size=40))
+
+    def test_inserts_in_turn(self):
+        drawn = random.Random(21)
+        log, elements = poseidon.Log(), [drawn.randrange(poseidon.MODULUS)]
+        log.append(elements)
+        root, size = poseidon.root(elements), 1
+        while size < 200:
+            more = [drawn.choice((0, drawn.randrange(poseidon.MODULUS))) for _ in range(drawn.choice((1, 1, 2, 5, 30)))]
+            root, size = poseidon.verify_insertion(root, size, more, log.insertion_proof()), size + len(more)
+            elements += more
+            log.append(more)
+            self.assertEqual(root, lean_imt(elements)[-1][0])
+            self.assertEqual(root, log.root())
+
+    def test_other_proofs(self):
+        log = poseidon.Log()
+        log.append(range(1, 24))
+        root, proof = log.root(), log.insertion_proof()
+        self.assertEqual(len(proof), 32 * 4)
+        right = poseidon.verify_insertion(root, 23, [7, 8, 9], proof)
+        for at in range(0, len(proof), 31):
+            other = bytearray(proof)
+            other[at] ^= 1
+            self.assertIsNone(poseidon.verify_insertion(root, 23, [7, 8, 9], bytes(other)))
+        swapped = proof[32:64] + proof[:32] + proof[64:]
+        self.assertIsNone(poseidon.verify_insertion(root, 23, [7, 8, 9], swapped))
+        self.assertIsNone(poseidon.verify_insertion(root + 1, 23, [7, 8, 9], proof))
+        # as many ones, and another root
+        self.assertNotEqual(poseidon.verify_insertion(root, 27, [7, 8, 9], proof), right)
+        for size in (22, 31, 1, 16):
+            self.assertRaises((TruncatedProof, InvalidProof), poseidon.verify_insertion, root, size, [7, 8, 9], proof)
+        for other in ([7, 9, 8], [7, 8], [7, 8, 9, 0], []):
+            self.assertNotEqual(poseidon.verify_insertion(root, 23, other, proof), right)
+
+    def test_refusals(self):
+        log = poseidon.Log()
+        self.assertRaises(SizeError, log.insertion_proof)
+        log.append([1, 2, 3])
+        proof = log.insertion_proof()
+        for size in (0, 4, 2**63, 2**64 - 1):
+            self.assertRaises(SizeError, log.insertion_proof, size=size)
+        for size in (0, 2**63, 2**64 - 1):
+            self.assertRaises(SizeError, poseidon.verify_insertion, log.root(), size, [1], proof)
+        self.assertRaises(TruncatedProof, poseidon.verify_insertion, log.root(), 3, [1], proof[:-1])
+        self.assertRaises(TruncatedProof, poseidon.verify_insertion, log.root(), 3, [1], b"")
+        self.assertRaises(InvalidProof, poseidon.verify_insertion, log.root(), 3, [1], proof + b"\0")
+        far = poseidon.MODULUS.to_bytes(32, "little")
+        self.assertRaises(InvalidProof, poseidon.verify_insertion, log.root(), 3, [1], far + proof[32:])
+        for element in (poseidon.MODULUS, -1, 2**256):
+            self.assertRaises(poseidon.ElementError, poseidon.verify_insertion, log.root(), 3, [1, element], proof)
+        self.assertRaises(poseidon.ElementError, poseidon.verify_insertion, poseidon.MODULUS, 3, [1], proof)
+        for given in ("proof", None, 3, [1]):
+            self.assertRaises(TypeError, poseidon.verify_insertion, log.root(), 3, [1], given)
+        self.assertRaises(OverflowError, poseidon.verify_insertion, log.root(), -1, [1], proof)
+
+
 class Changes(unittest.TestCase):
     def assert_is(self, log, elements, size, index):
         levels = lean_imt(elements[:size])

@@ -159,6 +159,40 @@ impl<const N: usize> Table<N> {
             refused => Err(Refused::of(refused)),
         }
     }
+
+    /// Returns the root of a log of `size` elements with more behind them, by its root alone: what Semaphore's `insertMany` comes to.
+    ///
+    /// The proof is what `Log::insertion_proof` returns. `Ok(None)` says that it was read and does not make the root. Refusals: `Size` for
+    /// a log of no element and for 2^63 and above together, `Truncated`, `Invalid` where the proof has more bytes, and where an element or
+    /// a digest of the proof is not below the modulus.
+    pub fn verify_insertion(
+        &self,
+        root: &Digest,
+        size: usize,
+        elements: &[Digest],
+        proof: &[u8],
+    ) -> Result<Option<Digest>, Refused> {
+        let mut new_root = [0; 32];
+        // SAFETY: as in `root`.
+        let answer = unsafe {
+            sys::paxidore_poseidon_log_verify_insertion(
+                new_root.as_mut_ptr(),
+                self.bytes.as_ptr(),
+                self.len,
+                root.as_ptr(),
+                size,
+                elements.as_ptr().cast(),
+                elements.len(),
+                proof.as_ptr(),
+                proof.len(),
+            )
+        };
+        match answer {
+            0 => Ok(Some(new_root)),
+            1 => Ok(None),
+            refused => Err(Refused::of(refused)),
+        }
+    }
 }
 
 /// A log over the hash of two elements, in memory: a LeanIMT, as Semaphore has it, of any size above 0.
@@ -283,6 +317,22 @@ impl<'a, const N: usize> Log<'a, N> {
                 self.kept.len(),
                 size,
                 index,
+            )
+        })
+    }
+
+    /// Returns the bytes of the proof of an insertion behind the first `size` elements, for [`Table::verify_insertion`]: the roots of the
+    /// complete subtrees into which they fall, the largest first. Refusals: `Size` for more than there are and for none.
+    pub fn insertion_proof(&self, size: usize) -> Result<std::vec::Vec<u8>, Refused> {
+        // SAFETY: as in `Table::root`.
+        crate::written(63 * 32, |proof, room, count| unsafe {
+            sys::paxidore_poseidon_log_insertion(
+                proof,
+                room,
+                count,
+                self.kept.as_ptr().cast(),
+                self.kept.len(),
+                size,
             )
         })
     }

@@ -363,6 +363,25 @@ extern "C" {
         index: usize,
         element: *const u8,
     ) -> i32;
+    pub fn paxidore_poseidon_log_insertion(
+        proof: *mut u8,
+        proof_room: usize,
+        proof_len: *mut usize,
+        kept: *const u8,
+        kept_len: usize,
+        size: usize,
+    ) -> i32;
+    pub fn paxidore_poseidon_log_verify_insertion(
+        new_root: *mut u8,
+        table: *const u8,
+        table_len: usize,
+        root: *const u8,
+        size: usize,
+        elements: *const u8,
+        count: usize,
+        proof: *const u8,
+        proof_len: usize,
+    ) -> i32;
     pub fn paxidore_strerror(answer: i32) -> *const c_char;
     pub fn paxidore_version() -> *const c_char;
     pub fn paxidore_cpu() -> *const c_char;

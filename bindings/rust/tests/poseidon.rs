@@ -188,6 +188,94 @@ fn changes_refuse() -> Result<(), Refused> {
     Ok(())
 }
 
+// The roots of the complete trees of a list, the largest first.
+fn peaks(table: &Table<{ table_bytes(2) }>, given: &[Digest]) -> Vec<u8> {
+    let (mut at, mut found) = (0, Vec::new());
+    for level in (0..8).rev() {
+        if given.len() >> level & 1 == 1 {
+            found.extend(model(table, given[at..at + (1 << level)].to_vec(), 0).0);
+            at += 1 << level;
+        }
+    }
+    found
+}
+
+#[test]
+fn insertions_are_those_of_a_model() -> Result<(), Refused> {
+    let table = Table::<{ table_bytes(2) }>::new(2)?;
+    let given = elements(40);
+    let mut log = Log::new(&table);
+    log.append(&given)?;
+    for size in 1..36 {
+        let proof = log.insertion_proof(size)?;
+        assert_eq!(proof, peaks(&table, &given[..size]));
+        let (root, _) = model(&table, given[..size].to_vec(), 0);
+        for count in [0, 1, 2, 4, 40 - size] {
+            let more = &given[size..size + count];
+            let (new_root, _) = model(&table, given[..size + count].to_vec(), 0);
+            assert_eq!(
+                table.verify_insertion(&root, size, more, &proof)?,
+                Some(new_root)
+            );
+        }
+        let mut other = proof.clone();
+        other[7] ^= 1;
+        assert_eq!(
+            table.verify_insertion(&root, size, &given[..2], &other)?,
+            None
+        );
+        assert_eq!(
+            table.verify_insertion(&given[39], size, &given[..2], &proof)?,
+            None
+        );
+        assert_ne!(
+            table.verify_insertion(&root, size, &[given[1], given[0]], &proof)?,
+            table.verify_insertion(&root, size, &given[..2], &proof)?
+        );
+    }
+    Ok(())
+}
+
+#[test]
+fn insertions_refuse() -> Result<(), Refused> {
+    let (two, three) = (Table::<{ table_bytes(2) }>::new(2)?, Room::new(3)?);
+    let given = elements(3);
+    let mut log = Log::new(&two);
+    assert_eq!(log.insertion_proof(0), Err(Refused::Size));
+    log.append(&given)?;
+    let (root, proof) = (log.root(3)?, log.insertion_proof(3)?);
+    for size in [0, 4, 1 << 63, usize::MAX] {
+        assert_eq!(log.insertion_proof(size), Err(Refused::Size));
+    }
+    for size in [0, (1 << 63) - 3, 1 << 63, usize::MAX] {
+        assert_eq!(
+            two.verify_insertion(&root, size, &given, &proof),
+            Err(Refused::Size)
+        );
+    }
+    assert_eq!(
+        three.verify_insertion(&root, 3, &given, &proof),
+        Err(Refused::Count)
+    );
+    assert_eq!(
+        two.verify_insertion(&root, 3, &[[255; 32]], &proof),
+        Err(Refused::Invalid)
+    );
+    assert_eq!(
+        two.verify_insertion(&root, 3, &given, &proof[1..]),
+        Err(Refused::Truncated)
+    );
+    assert_eq!(
+        two.verify_insertion(&root, 3, &given, &[0; 65]),
+        Err(Refused::Invalid)
+    );
+    assert_eq!(
+        two.verify_insertion(&root, 3, &given, &[255; 64]),
+        Err(Refused::Invalid)
+    );
+    Ok(())
+}
+
 #[test]
 fn trees_refuse() -> Result<(), Refused> {
     let (two, three) = (Table::<{ table_bytes(2) }>::new(2)?, Room::new(3)?);

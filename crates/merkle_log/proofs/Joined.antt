@@ -63,7 +63,7 @@ below-level k level n low high = elim (cases_lt level k) [
   | inr below ↦ below
 ]
 
-one-one : count_ones 1 ≡ 1
+pub one-one : count_ones 1 ≡ 1
 unfolding lib.Count.ones
 one-one = refl
 

@@ -78,7 +78,7 @@ rows-fewer fewer size xs le level =
 half-more : (n : ℕ) → suc (suc n) / 2 ≡ suc (n / 2)
 half-more n = omega arith
 
-row_pairs-front : (hash : NodeHash) (n : ℕ) (row next : List Digest) → row_pairs hash row ≡ Ok next
+pub row_pairs-front : (hash : NodeHash) (n : ℕ) (row next : List Digest) → row_pairs hash row ≡ Ok next
     → row_pairs hash (take n row) ≡ Ok (take (n / 2) next)
 row_pairs-front hash zero row next is = refl
 row_pairs-front hash (suc zero) [] next is = refl

@@ -54,3 +54,6 @@ pub mod MultiCounts
 pub mod MultiHashing
 pub mod MultiMaking
 pub mod MultiLeaves
+pub mod Inserting
+pub mod InsertionBound
+pub mod InsertionMaking

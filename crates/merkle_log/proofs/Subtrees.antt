@@ -70,7 +70,7 @@ level-small level size fits = elim (cases_lt level 64) [
   | inr ge ↦ absurd (omega (arith, power-rises 64 level ge, fits))
 ]
 
-no-ones : count_ones 0 ≡ 0
+pub no-ones : count_ones 0 ≡ 0
 unfolding lib.Count.ones
 no-ones = refl
 

@@ -18,3 +18,4 @@ pub mod Levels
 pub mod Rising
 pub mod Multi
 pub mod MultiBind
+pub mod Insertion

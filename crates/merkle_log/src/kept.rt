@@ -16,6 +16,7 @@ ghost use Rattle.merkle_log.specs.Stored.{stored_count, StoredValue};
 
 mod check;
 mod growth;
+mod insertion;
 mod multi;
 mod node;
 

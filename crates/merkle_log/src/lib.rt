@@ -7,6 +7,8 @@ pub mod consistency;
 mod digests;
 pub mod frontier;
 pub mod inclusion;
+pub mod insertion;
+pub mod insertion_making;
 mod joining;
 pub mod kept;
 mod laying;
@@ -30,6 +32,7 @@ pub use bind::LogBinding;
 pub use consistency::verify_consistency;
 pub use frontier::Frontier;
 pub use inclusion::{verify_inclusion, verify_inclusion_digest};
+pub use insertion::{root_after_insertion, root_after_insertion_bytes};
 pub use log::Log;
 pub use multi_inclusion::{
     verify_multi_inclusion, verify_multi_inclusion_bytes, verify_multi_inclusion_digests,

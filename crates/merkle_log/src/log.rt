@@ -16,6 +16,7 @@ ghost use Rattle.merkle_log.specs.Log.{LogValue, both_levels, inclusion_path, co
 ghost use Rattle.merkle_log.specs.Stored.{row_at, IsStored};
 ghost use Rattle.merkle_log.specs.Verdict.{inclusion_verdict, consistency_verdict};
 
+mod insertion;
 mod multi;
 
 use crate::bind::{LogBinding, log_binding_of};

@@ -8,3 +8,4 @@ pub mod MultiLog
 pub mod Putting
 pub mod TwoInputs
 pub mod KeptMapCalls
+pub mod Inserted

@@ -5,3 +5,4 @@ pub mod Maps
 pub mod Notes
 pub mod Poseidon
 pub mod PoseidonLog
+pub mod PoseidonInsertion

@@ -20,6 +20,7 @@ pub mod notes;
 pub mod poseidon;
 pub mod poseidon_log;
 pub mod poseidon_log_changes;
+pub mod poseidon_log_insertion;
 pub mod poseidon_log_kept;
 pub mod sha256;
 pub mod signatures;

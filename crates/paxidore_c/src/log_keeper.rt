@@ -170,6 +170,13 @@ pub extern "C" fn paxidore_log_consistency(
     hand_over_consistency(&kept, old_size, &mut digests[..length], proof, proof_len)
 }
 
+// Returns whether a log of this size takes so many leaves more: their sum is a size.
+pub(crate) fn can_take(size: usize, count: usize) -> bool
+    ensures { result ≡ takes size count }
+{
+    is_size(size.saturating_add(count))
+}
+
 // How many digests stand behind the stored ones for so many leaves more; `None` where the sum is no size.
 pub(crate) fn more_count(size: usize, count: usize) -> Option<usize>
     requires { size < 2 ^ 63 }
