@@ -23,7 +23,8 @@ joined first second high low i others =
 
 joined-some : (first second : Option ℕ) (high low i : ℕ) (others : Result (List ℕ) FromHexError) (more : List ℕ)
     → unwrap_or first 255 ≤ 15 → unwrap_or second 255 ≤ 15 → result_ok others ≡ Some more
-    → result_ok (joined first second high low i others) ≡ Some ((unwrap_or first 255 * 16 + unwrap_or second 255) ∷ more)
+    → result_ok (joined first second high low i others)
+    ≡ Some ((unwrap_or first 255 * 16 + unwrap_or second 255) ∷ more)
 joined-some (Some x) (Some y) high low i (Ok bytes) more a b e = cc
 joined-some (Some x) (Some y) high low i (Err fault) more a b e = cc
 joined-some (Some x) None high low i others more a b e = absurd (omega arith)
@@ -123,9 +124,10 @@ module _ (digits bytes : List ℕ) (i : ℕ) (fits : length digits ≡ 2 * lengt
   written-more high low = record {
     some = λ rest e.
         let b = digit_number (get_or digits (2 * i) 0) * 16 + digit_number (get_or digits (2 * i + 1) 0) in
-        written.some (b ∷ rest) (ap (spelled (2 * i)) cut ∙ spelled-some (2 * i) _ _ (drop (2 * i + 2) digits) rest high low
-        (subst (λ n. spelled n (drop n digits) ≡ Some rest) next e))
-        ∙ ap Some (sym (append_assoc (take i bytes) (b ∷ []) rest) ∙ ap (λ s. s ++ rest) (sym (take_more_set bytes i b l)));
+        written.some (b ∷ rest) (ap (spelled (2 * i)) cut
+        ∙ spelled-some (2 * i) _ _ (drop (2 * i + 2) digits) rest high low (subst (λ n. spelled n (drop n digits) ≡ Some rest) next e))
+        ∙ ap Some (sym (append_assoc (take i bytes) (b ∷ []) rest)
+        ∙ ap (λ s. s ++ rest) (sym (take_more_set bytes i b l)));
     none = λ e.
         written.none (ap (spelled (2 * i)) cut ∙ spelled-none (2 * i) _ _ (drop (2 * i + 2) digits)
         (subst (λ n. spelled n (drop n digits) ≡ None) next e));
