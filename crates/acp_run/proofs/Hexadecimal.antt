@@ -124,8 +124,9 @@ module _ (digits bytes : List ℕ) (i : ℕ) (fits : length digits ≡ 2 * lengt
   written-more high low = record {
     some = λ rest e.
         let b = digit_number (get_or digits (2 * i) 0) * 16 + digit_number (get_or digits (2 * i + 1) 0) in
+        let others = subst (λ n. spelled n (drop n digits) ≡ Some rest) next e in
         written.some (b ∷ rest) (ap (spelled (2 * i)) cut
-        ∙ spelled-some (2 * i) _ _ (drop (2 * i + 2) digits) rest high low (subst (λ n. spelled n (drop n digits) ≡ Some rest) next e))
+        ∙ spelled-some (2 * i) _ _ (drop (2 * i + 2) digits) rest high low others)
         ∙ ap Some (sym (append_assoc (take i bytes) (b ∷ []) rest)
         ∙ ap (λ s. s ++ rest) (sym (take_more_set bytes i b l)));
     none = λ e.
