@@ -29,7 +29,7 @@ pub mod ff {
     };
     pub use ark_wide_fields::{
         Bls12_381Fr, Bn254Fr, Fp256, InvertibleField, NoInverses, PallasFp, PrimeModulus, VestaFp,
-        WideModulus, batch_inverse, inverse, power, quotient, square_root,
+        WideModulus, batch_inverse, inverse, power, quotient, root_of_quotient, square_root,
     };
 }
 
