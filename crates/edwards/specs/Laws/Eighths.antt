@@ -36,13 +36,10 @@ module _ (p d : ℕ) (k : IsComplete p d) (h : HasEighths p d k.root) where
   pos : 0 < p
   pos = some_modulus p f
 
-  some_product_of : (a b : ℕ) → (a % p ≡ 0 → ⊥) → (b % p ≡ 0 → ⊥) → a * b % p ≡ 0 → ⊥
-  some_product_of = product_some p f
-
   abbrev of : Coordinates → ℕ
   of a = multiplied p i h.slope a
 
-  -- the constant: its eighth powers' multiples are told
+  -- the constant, whose multiples by eighth powers are told
   abbrev class : ℕ
   class = 2 * h.spread * (2 * h.spread)
 
@@ -77,8 +74,8 @@ module _ (p d : ℕ) (k : IsComplete p d) (h : HasEighths p d k.root) where
       half p d k a on some_x some_y r.0 r.1
     where
       t : ℕ
-      t = tangent i h.slope a * second_factor p a * first_factor i a *
-          (tangent i h.slope a * second_factor p a * first_factor i a)
+      t = tangent i h.slope a * second_factor p a * first_factor i a
+          * (tangent i h.slope a * second_factor p a * first_factor i a)
           * (first_factor i a * (1 + a.y))
 
       regroup : (n w b : ℕ) → n * n * w * (n * n * w) * b ≡ n * n * (n * n) * (w * w) * b

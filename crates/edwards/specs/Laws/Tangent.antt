@@ -124,12 +124,12 @@ module _ (p d : ℕ) (k : IsComplete p d) (h : HasEighths p d k.root) where
       at_first : h.r * w % p ≡ 1 % p
       at_first = sym (differs p (h.r * w) 1 pos) ∙ sums p v 0 1 1 (v_is_zero ∙ sym (zero-mod p)) refl
 
-      away : ℕ
+      -- 1 - r y
+      abbrev away : ℕ
       away = 1 + (p - h.r * a.y % p)
 
-      away_is : (1 + h.r) * (1 + (p - h.r * a.y % p)) % p ≡ 0
-      away_is = tangent_second p h.slope h.r (1 + (p - h.r * a.y % p)) w a.y pos at_first (h.is_slope ∙ sym
-          (zero-mod p))
+      away_is : (1 + h.r) * away % p ≡ 0
+      away_is = tangent_second p h.slope h.r away w a.y pos at_first (h.is_slope ∙ sym (zero-mod p))
           (less p (h.r * a.y) pos)
           ∙ ap (λ n. n % p) (mul_comm h.r (tangent i h.slope a)) ∙ multiples p (tangent i h.slope a) 0 h.r none
           ∙ ap (λ n. n % p) (nothing h.r) ∙ zero-mod p
@@ -139,17 +139,15 @@ module _ (p d : ℕ) (k : IsComplete p d) (h : HasEighths p d k.root) where
 
       at_second : h.r * a.y % p ≡ 1 % p
       at_second = ap (λ n. n % p) (plain (h.r * a.y))
-          ∙ sums p 0 (1 + (p - h.r * a.y % p)) (h.r * a.y) (h.r * a.y) (zero-mod p ∙ sym (at (cases_eq ((1 +
-          (p - h.r * a.y % p)) % p) 0))) refl
+          ∙ sums p 0 away (h.r * a.y) (h.r * a.y) (zero-mod p ∙ sym (at (cases_eq (away % p) 0))) refl
           ∙ less p (h.r * a.y) pos
         where
           plain : (n : ℕ) → n ≡ 0 + n
           plain n = omega arith
 
-          at : ((1 + (p - h.r * a.y % p)) % p ≡ 0) ⊎ ((1 + (p - h.r * a.y % p)) % p ≡ 0 → ⊥) → (1 +
-              (p - h.r * a.y % p)) % p ≡ 0
+          at : (away % p ≡ 0) ⊎ (away % p ≡ 0 → ⊥) → away % p ≡ 0
           at (inl e) = e
-          at (inr some) = absurd (product_some p f (1 + h.r) (1 + (p - h.r * a.y % p)) h.some_r some away_is)
+          at (inr some) = absurd (product_some p f (1 + h.r) away h.some_r some away_is)
 
       pub squares_are_zero : (a.y * a.y + a.x * a.x) % p ≡ 0
       squares_are_zero = turned_alike p i a.x a.y pos

@@ -1,5 +1,5 @@
--- The tangent at a point of order 8: its value at a double, and where it is 0. A first coordinate x is turned to w =
--- i x.
+-- The tangent at a point of order 8: its value at a double, and where it is 0.
+-- A first coordinate x is turned to w = i x.
 -- The polynomials are the cofactors of the equations, found by division; the check multiplies them out.
 use Rattle.std.proofs.Common.{◌≡◌, ℕ, ◌+◌, ◌*◌, ◌%◌, ◌<◌, List, [], ◌∷◌, refl, sym}
 use Rattle.number_facts.specs.Polynomials.{Polynomial, var, lit, plus, times}

@@ -203,7 +203,7 @@ module _ (p d : ℕ) (k : IsComplete p d) (h : HasEighths p d k.root) where
         (more a) pos tangent_is
         rest_is_square middle_is second
 
-    -- where a is doubled to b, and b to the point
+    -- where the double is doubled again
     pub next_is : (double a).y * (double a).y * more (double a) * (2 * more a * (2 * more a)) % p
         ≡ sides (double a) * (both a * both a) * (sides (double a) * (both a * both a)) % p
     next_is = cancelled p f ((double a).y * (double a).y * more (double a) * (2 * more a * (2 * more a)))
