@@ -75,9 +75,6 @@ pub record IsWritten (digits bytes : List ℕ) (i : ℕ) : Type 0 where
       → spelled 0 digits ≡ Some (take i bytes ++ rest)
   pub none : spelled (2 * i) (drop (2 * i) digits) ≡ None → spelled 0 digits ≡ None
 
-pub written-first : (digits bytes : List ℕ) → IsWritten digits bytes 0
-written-first digits bytes = record { some = λ rest e. e; none = λ e. e }
-
 -- the digits from a place on: two, and the others
 two_digits : (digits : List ℕ) (k : ℕ) → k + 1 < length digits
     → drop k digits ≡ get_or digits k 0 ∷ get_or digits (k + 1) 0 ∷ drop (k + 2) digits

@@ -10,7 +10,7 @@ use Rattle.edwards.specs.Eighths.{HasEighths, tangent, second_factor}
 use Rattle.edwards.specs.Laws.Completeness.{has_inverses}
 use Rattle.edwards.specs.Laws.Halves.{some_first, some_second, some_alike, some_i}
 use Rattle.edwards.specs.Laws.Quotients.{HasInverses, some_modulus, cancelled, product_some, less, differs}
-use Rattle.edwards.specs.Laws.TangentFacts.{tangent_apart, tangent_on_curve, tangent_roots, tangent_second, left_alone}
+use Rattle.edwards.specs.Laws.TangentZeros.{tangent_apart, tangent_on_curve, tangent_roots, tangent_second, left_alone}
 use Rattle.edwards.specs.Laws.Telling.{minus, double, above, below, both, less_first, apart, squares, more, product}
 use Rattle.edwards.specs.Laws.Telling.{sides}
 use Rattle.edwards.specs.Laws.Telling.{at_x, at_y, some_above, some_below, parts_make_square, parted}
