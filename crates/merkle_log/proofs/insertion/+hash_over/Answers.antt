@@ -25,7 +25,10 @@ hash_over-requires g t c κs lives =
             lives.1.1,
             (
               omega (arith, c.requires.level),
-              (c.requires.some, (omega (arith, c.if-size-more.true, c.power-half.ensures), (c.requires.fits, c.requires.peaks))),
+              (
+                c.requires.some,
+                (omega (arith, c.if-size-more.true, c.power-half.ensures), (c.requires.fits, c.requires.peaks)),
+              ),
             ),
           ),
         ),

@@ -12,8 +12,8 @@ pub returns-clause-bound : goal.returns-clause-bound
 returns-clause-bound g c =
     let numbers = g.D.Numbered.numbers in
     let hash = (g.T.TreeHasher.hashes c.args.hasher.now).pair.upper in
-    given-each _ _ _ c.inserted_root.result _ (rw (c.new.ensures.hasher) at c.inserted_root.ensures) (λ new is root some.
-    insertion-bound hash (numbers c.args.old_root.now) c.args.size (map numbers c.args.proof.now)
+    given-each _ _ _ c.inserted_root.result _ (rw (c.new.ensures.hasher) at c.inserted_root.ensures)
+    (λ new is root some. insertion-bound hash (numbers c.args.old_root.now) c.args.size (map numbers c.args.proof.now)
     (map numbers c.args.more.now) root (is ∙ ap Ok some))
 
 pub returns-clause-own : goal.returns-clause-own

@@ -36,7 +36,8 @@ overflow_sub-at g c = omega (arith, c.levels.invariant.at, half_ones c.levels.le
 pub at-requires-clause-held : goal.at-requires-clause-held
 at-requires-clause-held g c =
     peak-here-at (g.R.Rows.Holds c.args.rows.now) c.args.size c.levels.level (c.levels.left - 1) c.requires.held
-    (omega (arith, c.levels.invariant.up, c.if-left-eq1.true)) (omega (arith, c.levels.invariant.up, c.levels-test.true))
+    (omega (arith, c.levels.invariant.up, c.if-left-eq1.true))
+    (omega (arith, c.levels.invariant.up, c.levels-test.true))
 
 pub bounds-proof-at : goal.bounds-proof-at
 bounds-proof-at g c = omega (arith, c.levels.invariant.within, c.levels.invariant.at, half_ones c.levels.left)
