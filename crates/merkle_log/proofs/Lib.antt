@@ -55,5 +55,6 @@ pub mod MultiHashing
 pub mod MultiMaking
 pub mod MultiLeaves
 pub mod Inserting
+pub mod InsertionOwn
 pub mod InsertionBound
 pub mod InsertionMaking
