@@ -119,6 +119,7 @@ pub use Rattle.merkle_log.specs.Binding.{HighestIn, IsHighest, LeafHighestIn, is
 pub use Rattle.merkle_log.specs.Collision.{HistoriesCollide, PathCollidesAt, WalkCollides}
 pub use Rattle.merkle_log.specs.Edge.{all_of, root_pairs}
 pub use Rattle.merkle_log.specs.Frontier.{CanJoin, FrontierValue, IsFrontier, RefusesPeak, RefusesTree, frontier_in}
+pub use Rattle.merkle_log.specs.Insertion.{BindsInsertion, IsInsertion, ShowsInsertion, insertion_root, received_insertion}
 pub use Rattle.merkle_log.specs.Log.{LogValue, both_levels, consistency_path, inclusion_path, merkle_tree_hash, root_at}
 pub use Rattle.merkle_log.specs.Log.{with_more}
 pub use Rattle.merkle_log.specs.Multi.{Known, are_multi_indexes, digests_at, known_of, known_verdict, leaves_verdict}

@@ -246,9 +246,10 @@ pub mod log {
     pub use ark_trees::LogHasher;
     pub use merkle_log::multi_parts::are_multi_indexes;
     pub use merkle_log::{
-        Frontier, Log, LogBinding, verify_consistency, verify_consistency_bytes, verify_inclusion,
-        verify_inclusion_bytes, verify_inclusion_digest, verify_multi_inclusion,
-        verify_multi_inclusion_bytes, verify_multi_inclusion_digests,
+        Frontier, Log, LogBinding, root_after_insertion, root_after_insertion_bytes,
+        verify_consistency, verify_consistency_bytes, verify_inclusion, verify_inclusion_bytes,
+        verify_inclusion_digest, verify_multi_inclusion, verify_multi_inclusion_bytes,
+        verify_multi_inclusion_digests,
     };
     pub use signed_notes;
 

@@ -53,8 +53,8 @@ module _ {hash : NodeHash} {rows : ℕ → List Digest} {size level left : ℕ} 
     pub peaking-even : left % 2 ≡ 0 → Peaking hash rows size (level + 1) (left / 2) behind
     peaking-even even = up behind (record {
       at = λ empty k high. p.at empty (suc k) (omega (arith, high, twice k))
-          ∙ ap (λ l. l ++ there behind) (frontier-even
-          (joined hash) (Ok empty) k (there (take left (rows level))) (omega (arith, long, even))
+          ∙ ap (λ l. l ++ there behind) (frontier-even (joined hash) (Ok empty) k
+          (there (take left (rows level))) (omega (arith, long, even))
           ∙ ap (frontier (joined hash) (Ok empty) k) above);
     })
 
