@@ -79,6 +79,12 @@ take-within (b ∷ x) y (suc n) = let more = take-within x y n in (suc more.0, a
 pub front_within : (a b : Option (List ℕ)) (x y : List ℕ) → AppendsFront a b x → AppendsFront a b (x ++ y)
 front_within a b x y front = let m = take-within x y front.0 in (m.0, rw m.1 front.1)
 
+-- nothing is a front of any bytes
+pub front_of_none : (a b : Option (List ℕ)) (x : List ℕ) → Keeps a b → AppendsFront a b x
+front_of_none None b x k = (0, tt)
+front_of_none (Some xs) None x k = absurd k
+front_of_none (Some xs) (Some ys) x k = (0, k ∙ sym (append-nil xs))
+
 pub kept_front : (a b c : Option (List ℕ)) (x : List ℕ) → Keeps a b → AppendsFront b c x → AppendsFront a c x
 kept_front a b c x k front = (front.0, kept_then a b c (take front.0 x) k front.1)
 

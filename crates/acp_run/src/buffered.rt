@@ -1,15 +1,15 @@
 //! Readers and writers of `std::io` as what a session reads and writes.
 
-ghost use Rattle.std.specs.Prelude.{◌≡◌, ◌≤◌, [], length, take, true, false, is_some, None, IfErr, OnOk, OnErr, IfOk, MatchResult};
+ghost use Rattle.std.specs.Prelude.{◌≡◌, ◌≤◌, [], length, take, true, false, is_some, None, IfErr, OnOk, OnErr, IfOk, IsErr, IsOk, MatchResult};
 ghost use Rattle.std.specs.Io.Buffered.{reader_buffer, reader_remaining};
 ghost use Rattle.std.specs.Io.KnownBytes.{Appends, Keeps, append_known};
-ghost use Rattle.acp_run.specs.Lines.{HoldsLineFeed};
+ghost use Rattle.acp_run.specs.Lines.{HoldsLineFeed, with_line_feed};
 ghost use Rattle.acp_run.specs.Sessions.{AppendsFront};
 ghost use Rattle.acp_run.specs.Streams.{held_back};
 
 use crate::streams::{Input, Output};
 use memchr::memchr;
-use std::alloc::Global;
+use std::alloc::{AllocError, Global};
 use std::io::{self, BufRead, BufReader, ErrorKind, Read, Write};
 
 // How many bytes of replies wait to be sent off together.
@@ -122,7 +122,7 @@ impl<W: Write> BufferedOutput<W> {
     }
 
     // Puts bytes behind those in the buffer.
-    fn keep(&mut self, bytes: &[u8]) -> io::Result<()>
+    fn keep(&mut self, bytes: &[u8]) -> Result<(), AllocError>
         requires { self.old.failure ≡ None }
         ensures whole { OnOk result (Appends (⟦<Self as Output>⟧.contents self.old)
             (⟦<Self as Output>⟧.contents self.new) bytes.now) }
@@ -135,9 +135,23 @@ impl<W: Write> BufferedOutput<W> {
             Ok(()) => Ok(()),
             Err(fault) => {
                 self.failure = Some(0);
-                Err(io::Error::from(fault))
+                Err(fault)
             }
         }
+    }
+
+    // Puts a reply and a line feed behind the bytes in the buffer.
+    fn keep_reply(&mut self, reply: &[u8]) -> Result<(), AllocError>
+        requires { self.old.failure ≡ None }
+        ensures whole { OnOk result (Appends (⟦<Self as Output>⟧.contents self.old)
+            (⟦<Self as Output>⟧.contents self.new) (with_line_feed reply.now)) }
+        ensures cut { OnErr result (AppendsFront (⟦<Self as Output>⟧.contents self.old)
+            (⟦<Self as Output>⟧.contents self.new) (with_line_feed reply.now)) }
+        ensures failed { MatchResult result
+            (λ _. self.new.failure ≡ None) (λ _. is_some self.new.failure ≡ true) }
+    {
+        self.keep(reply)?;
+        self.keep(b"\n")
     }
 
     // Writes bytes, with none in the buffer before them.
@@ -196,13 +210,21 @@ impl<W: Write> Output for BufferedOutput<W> {
 
     fn write(&mut self, bytes: &[u8]) -> io::Result<()> {
         if self.has_room(bytes.len()) {
-            return self.keep(bytes);
+            return as_io(self.keep(bytes));
         }
         self.pass_buffer()?;
         if self.has_room(bytes.len()) {
-            return self.keep(bytes);
+            return as_io(self.keep(bytes));
         }
         self.pass(bytes)
+    }
+
+    fn write_reply(&mut self, reply: &[u8]) -> io::Result<()> {
+        if self.has_room(reply.len().saturating_add(1)) {
+            return as_io(self.keep_reply(reply));
+        }
+        self.write(reply)?;
+        self.write(b"\n")
     }
 
     fn send(&mut self) -> io::Result<()> {
@@ -210,6 +232,17 @@ impl<W: Write> Output for BufferedOutput<W> {
             return Ok(());
         }
         self.pass_buffer()
+    }
+}
+
+// Returns the same as an `io::Result`, which takes a hundred bytes and so is made once.
+#[inline(always)]
+fn as_io(kept: Result<(), AllocError>) -> io::Result<()>
+    ensures { MatchResult kept (λ _. IsOk result) (λ _. IsErr result) }
+{
+    match kept {
+        Ok(()) => Ok(()),
+        Err(fault) => Err(io::Error::from(fault)),
     }
 }
 

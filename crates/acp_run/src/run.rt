@@ -3,7 +3,6 @@
 ghost use Rattle.std.specs.Prelude.{◌≡◌, ◌<◌, ◌⊎◌, length, true, false, [], IfOk, IfSome, OnOk, OnErr, MatchResult};
 ghost use Rattle.std.specs.Io.BufRead.{DropsThrough, strip_last, take_through};
 ghost use Rattle.std.specs.Io.KnownBytes.{Appends, IsAtEnd, Keeps};
-ghost use Rattle.acp_run.specs.Lines.{with_line_feed};
 ghost use Rattle.acp_run.specs.Sessions.{AppendsFront, Halts, HaltsFrom, LosesFront, Serves, ServesFrom, Stops, StopsFrom};
 ghost use Rattle.acp_run.specs.Steps.{LineStep};
 
@@ -60,20 +59,6 @@ fn without_line_feed(line: &[u8]) -> &[u8]
         Some((b'\n', front)) => front,
         _ => line,
     }
-}
-
-/// Writes a reply and a line feed. Where that fails, a front of them was written.
-fn write_reply<O: Output>(replies: &mut O, reply: &[u8]) -> io::Result<()>
-    requires { O.has_failed replies.old ≡ false }
-    ensures whole { OnOk result (Appends (O.contents replies.old) (O.contents replies.new)
-        (with_line_feed reply.now)) }
-    ensures cut { OnErr result (AppendsFront (O.contents replies.old) (O.contents replies.new)
-        (with_line_feed reply.now)) }
-    ensures failed { MatchResult result
-        (λ _. O.has_failed replies.new ≡ false) (λ _. O.has_failed replies.new ≡ true) }
-{
-    replies.write(reply)?;
-    replies.write(b"\n")
 }
 
 /// Answers each line that comes, from no tree on, until the input ends, over hashes with these parameters. The first fault of the
@@ -140,7 +125,7 @@ fn answer_all<S: Answering, I: Input, O: Output>(
             return replies.send();
         }
         let reply = session.answer(alloc, without_line_feed(line))?;
-        write_reply(replies, &reply)?;
+        replies.write_reply(&reply)?;
     }
     Err(io::Error::from(ErrorKind::Other))
 }

@@ -3,6 +3,7 @@
 ghost use Rattle.std.specs.Prelude.{◌≡◌, ◌<◌, ◌⊎◌, ℕ, Bool, List, Option, [], length, true, false, IfOk, IfSome, OnOk, OnErr, MatchResult};
 ghost use Rattle.std.specs.Io.BufRead.{DropsThrough, take_through};
 ghost use Rattle.std.specs.Io.KnownBytes.{Appends, IsAtEnd, Keeps};
+ghost use Rattle.acp_run.specs.Lines.{with_line_feed};
 ghost use Rattle.acp_run.specs.Sessions.{AppendsFront, LosesFront};
 
 use std::io;
@@ -64,6 +65,18 @@ pub trait Output {
         ensures whole { OnOk result (Appends (contents self.old) (contents self.new) bytes.now) }
         ensures cut { OnErr result
             (AppendsFront (contents self.old) (contents self.new) bytes.now) }
+        ensures failed { MatchResult result
+            (λ _. has_failed self.new ≡ false) (λ _. has_failed self.new ≡ true) };
+
+    /// Takes a reply and a line feed. Where that fails, a front of them was taken.
+    ///
+    /// Errors: an `io::Error` of the writer. No further call may come.
+    fn write_reply(&mut self, reply: &[u8]) -> io::Result<()>
+        requires { has_failed self.old ≡ false }
+        ensures whole { OnOk result (Appends (contents self.old) (contents self.new)
+            (with_line_feed reply.now)) }
+        ensures cut { OnErr result (AppendsFront (contents self.old) (contents self.new)
+            (with_line_feed reply.now)) }
         ensures failed { MatchResult result
             (λ _. has_failed self.new ≡ false) (λ _. has_failed self.new ≡ true) };
 

@@ -1,7 +1,7 @@
 use Rattle.std.proofs.Common.{[], ◌∷◌}
 use Rattle.std.proofs.lemmas.Result.{on_err_weaker}
 use Rattle.acp_run.proofs.Runs.{on_err, front_behind, front_within}
-use Rattle.acp_run.proofs.run.write_reply.Goals as goal
+use Rattle.acp_run.proofs.buffered.BufferedOutputOutput.write_reply.Goals as goal
 
 pub returns-in_err-write-clause-cut : goal.returns-in_err-write-clause-cut
 returns-in_err-write-clause-cut g c = on_err c.from_residual.result (front_within _ _ c.args.reply.now (10 ∷ [])
