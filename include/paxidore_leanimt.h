@@ -30,7 +30,8 @@ PAXIDORE_ANSWERS PAXIDORE_NOT_NULL((3)) int32_t paxidore_poseidon_log_insertion(
  * one hash are at hand. NOT_SHOWN where the proof does not make the root, E_COUNT, E_SIZE for no element in the log, of
  * which paxidore_poseidon_root makes the first root, and for 2^63 and above together, E_INVALID for an element that is
  * not below the modulus, E_TRUNCATED and E_INVALID for bytes of fewer or more digests than `size` has ones, E_INVALID
- * for a digest that is not below the modulus, E_MEMORY. Each but OK leaves `new_root`. */
+ * for a digest that is not below the modulus, E_MEMORY. Each but OK leaves `new_root`. Know the size as you know the
+ * root: under another size with as many ones the proof makes the root too, and `new_root` may be of no list. */
 PAXIDORE_ANSWERS PAXIDORE_NOT_NULL((1, 4)) int32_t paxidore_poseidon_log_verify_insertion(uint8_t new_root[32],
     const uint8_t *table, size_t table_len, const uint8_t root[32], size_t size,
     const uint8_t *elements, size_t count, const uint8_t *proof, size_t proof_len);

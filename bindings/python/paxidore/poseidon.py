@@ -167,11 +167,12 @@ def verify(root: int, size: int, index: int, element: int, path: bytes) -> bool:
 
 
 def verify_insertion(root: int, size: int, elements: Sequence[int], proof: bytes) -> "Optional[int]":
-    """The root of a log of ``size`` elements with these behind them, by its root alone: what Semaphore's ``insertMany`` comes to.
+    """The root of a log of ``size`` elements with these behind them, by its root and size: what Semaphore's ``insertMany`` comes to.
 
-    The proof is what ``Log.insertion_proof`` returns. ``None`` says that it was read and does not make the root. ``SizeError`` for a log of
-    no element, ``TruncatedProof``, ``InvalidProof`` where the proof has more bytes or a digest that is not below the modulus,
-    ``ElementError``, ``OutOfMemory``."""
+    Know the size as you know the root: a proof makes the root under each size with as many ones in binary, and what is returned under
+    a wrong one may be the root of no list. The proof is what ``Log.insertion_proof`` returns. ``None`` says that it was read and does
+    not make the root. ``SizeError`` for a log of no element, ``TruncatedProof``, ``InvalidProof`` where the proof has more bytes or a
+    digest that is not below the modulus, ``ElementError``, ``OutOfMemory``."""
     table, place = _table_for(2), _word("size", size)
     known, given = _element(root, "the root"), b"".join(map(_element, elements))
     written = ctypes.create_string_buffer(DIGEST_BYTES)

@@ -160,11 +160,12 @@ impl<const N: usize> Table<N> {
         }
     }
 
-    /// Returns the root of a log of `size` elements with more behind them, by its root alone: what Semaphore's `insertMany` comes to.
+    /// Returns the root of a log of `size` elements with more behind them, by its root and size: what Semaphore's `insertMany` comes to.
     ///
-    /// The proof is what `Log::insertion_proof` returns. `Ok(None)` says that it was read and does not make the root. Refusals: `Size` for
-    /// a log of no element and for 2^63 and above together, `Truncated`, `Invalid` where the proof has more bytes, and where an element or
-    /// a digest of the proof is not below the modulus.
+    /// Know the size as you know the root: a proof makes the root under each size with as many ones in binary, and what is returned under
+    /// a wrong one may be the root of no list. The proof is what `Log::insertion_proof` returns. `Ok(None)` says that it was read and does
+    /// not make the root. Refusals: `Size` for a log of no element and for 2^63 and above together, `Truncated`, `Invalid` where the proof
+    /// has more bytes, and where an element or a digest of the proof is not below the modulus.
     pub fn verify_insertion(
         &self,
         root: &Digest,
